@@ -1,0 +1,3 @@
+-- Answers by number and values, and what a writer answers and leaves.
+pub mod Answer
+pub mod Write

@@ -1,0 +1,45 @@
+-- What a call that writes at the front of a buffer answers, and what the buffer then holds. Every writer of the store is
+-- given by two things: the number by which its input is refused (0 for none), and the bytes that it writes.
+-- Assumes nothing.
+use Prim.Native.Nat.{ℕ, suc, _≤_, _<_}
+use mathlib.Core.Path.{_≡_, refl}
+use mathlib.Core.Bool.{Bool, true, false, cond}
+use mathlib.Core.List.{List, [], _∷_}
+use native.Mathlib.Omega.{arith}
+use lib.Dec.{eqb, leb}
+use lib.ListN.{length}
+use borrow.Author.Tests.{eq-eqb, ne-eqb, le-leb, lt-leb}
+use Rattle.octets.specs.Over.{over}
+use Rattle.answers.specs.Answer.{Answer, accepted, refused}
+use Rattle.answers.specs.declared.Wrote.{Wrote}
+use Rattle.answers.specs.declared.Wrote.the-variants.{Length, Refused}
+
+-- document 01's number and values for each case
+abbrev pub wroteAnswer : Wrote → Answer
+wroteAnswer (Length n) = accepted (n ∷ [])
+wroteAnswer (Refused n) = refused n
+
+-- bad input is refused first, by its own number, then a buffer without room by 9
+unfoldable pub writeAnswer : ℕ → List ℕ → List ℕ → Wrote
+writeAnswer bad bytes buf = cond (eqb bad 0) (cond (leb (length bytes) (length buf)) (Length (length bytes)) (Refused 9)) (Refused bad)
+
+-- the bytes at the buffer's front, all behind them as it was; on a refusal all as it was
+unfoldable pub writeBuffer : ℕ → List ℕ → List ℕ → List ℕ
+writeBuffer bad bytes buf = cond (eqb bad 0) (cond (leb (length bytes) (length buf)) (over buf 0 bytes) buf) buf
+
+-- the three ways out of a writer
+module _ (bytes buf : List ℕ) where
+  pub write-bad : (bad n : ℕ) → bad ≡ n → 0 < n → (Refused n ≡ writeAnswer bad bytes buf) × (buf ≡ writeBuffer bad bytes buf)
+  unfolding writeAnswer writeBuffer
+  write-bad bad n e h =
+      let z : eqb n 0 ≡ false = ne-eqb n 0 (λ q. omega arith) in
+      rw (e, z) (refl, refl)
+
+  pub write-short : (bad : ℕ) → bad ≡ 0 → length buf < length bytes → (Refused 9 ≡ writeAnswer bad bytes buf) × (buf ≡ writeBuffer bad bytes buf)
+  unfolding writeAnswer writeBuffer
+  write-short bad e h = rw (e, lt-leb (length bytes) (length buf) h) (refl, refl)
+
+  pub write-done : (bad n : ℕ) (exit : List ℕ) → bad ≡ 0 → length bytes ≤ length buf → n ≡ length bytes → exit ≡ over buf 0 bytes
+      → (Length n ≡ writeAnswer bad bytes buf) × (exit ≡ writeBuffer bad bytes buf)
+  unfolding writeAnswer writeBuffer
+  write-done bad n exit e h k p = rw (e, le-leb (length bytes) (length buf) h, k) (refl, p)

@@ -1,0 +1,3 @@
+-- Little-endian numbers, and their laws.
+pub mod Le
+pub mod Laws

@@ -1,0 +1,46 @@
+-- `octets::is_zero` meets its contract. The invariant: what is gathered and what is left are zero together just where the whole list is.
+-- Assumes nothing.
+use Prim.Native.Nat.{_≤_, _-_}
+use mathlib.Core.Path.{_≡_, refl, sym, _∙_}
+use mathlib.Core.Bool.{_&&_}
+use native.Mathlib.Numerals.{add-one}
+use lib.Dec.{eqb}
+use lib.ListN.{length, drop}
+use Rattle.octets.specs.Zero.{allZero, zero-turn, zero-end}
+use borrow.Author.Needs.{needs}
+use Rattle.octets.proofs.is_zero.Statement.{statement}
+use Rattle.octets.proofs.is_zero.Tie as tie
+
+abbrev Inv-loop : tie.InvT-loop
+Inv-loop s acc₀ i₀ acc i = (i ≤ length s) × (eqb acc 0 && allZero (drop i s) ≡ allZero s)
+
+abbrev μ-loop : tie.MeasureT-loop
+μ-loop s acc₀ i₀ acc i = length s - i
+
+loop-holds : tie.Need-loop-holds Inv-loop μ-loop
+loop-holds c = search needs
+
+shared-slice-read-acc : tie.Need-shared-slice-read-acc Inv-loop μ-loop
+shared-slice-read-acc c = search needs
+
+add-i : tie.Need-add-i Inv-loop μ-loop
+add-i c = search needs
+
+loop-less : tie.Need-loop-less Inv-loop μ-loop
+loop-less c = search needs
+
+loop-again : tie.Need-loop-again Inv-loop μ-loop
+loop-again c =
+    let l = c .before .before .loop in
+    let s = c .before .before .before .args .s .now in
+    (search needs, rw add-one (zero-turn s (l .acc) (l .i) (c .before .loop-test .taken) ∙ l .inv .1))
+
+returns : tie.Need-returns Inv-loop μ-loop
+returns c =
+    let l = c .before .loop in
+    sym (zero-end (c .before .before .args .s .now) (l .acc) (l .i) (c .loop-test .left)) ∙ l .inv .1
+
+pub is-zero-spec : {M : Type 1} → statement M
+is-zero-spec =
+    tie.close
+    (tie.spec Inv-loop μ-loop loop-holds shared-slice-read-acc add-i loop-less loop-again returns)

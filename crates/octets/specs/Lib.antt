@@ -1,0 +1,5 @@
+-- Lists of bytes: what is laid over a buffer, zero bytes, equal bytes, rounding to 64, parts.
+pub mod Over
+pub mod Parts
+pub mod Round
+pub mod Zero

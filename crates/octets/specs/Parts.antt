@@ -1,0 +1,41 @@
+-- Parts of a list: a part to the end, a part of a front, and a part of a buffer that was lent to a writer and has come back, said of the whole.
+-- Assumes nothing.
+use Prim.Native.Nat.{ℕ, zero, suc, _+_, _-_, _≤_, _<_}
+use mathlib.Core.Path.{_≡_, refl, sym, ap, _∙_}
+use mathlib.Core.List.{List, [], _∷_, _++_, append-nil}
+use native.Mathlib.Nat.{zero-add}
+use native.Mathlib.Omega.{arith}
+use lib.ListN.{length, take, drop, length-drop, drop-of-length-le}
+use lib.Seq.{take-all, take-take, drop-drop}
+use borrow.Rule.Slice.PartMut.{putMid}
+use Rattle.octets.specs.Over.{over, length-over, over-next}
+
+-- a part to the end
+pub tail-all : (s : List ℕ) (a : ℕ) → take (length s - a) (drop a s) ≡ drop a s
+tail-all s a = take-all (length s - a) (drop a s) (omega (arith, length-drop a s))
+
+-- a part of a front of a list is that part of the list
+pub part-front : (i k n : ℕ) (x : List ℕ) → i + k ≤ n → take k (drop i (take n x)) ≡ take k (drop i x)
+part-front zero k n x h = take-take k n x (omega arith)
+part-front (suc i) k zero x h = absurd (omega arith)
+part-front (suc i) k (suc n) [] h = refl
+part-front (suc i) k (suc n) (b ∷ x) h = part-front i k n x (omega arith)
+
+-- a list at the front of the part from a place on is that list at that place of the whole
+pub over-part : (xs : List ℕ) (a : ℕ) (b : List ℕ) → a + length b ≤ length xs
+    → take a xs ++ (over (take (length xs - a) (drop a xs)) 0 b ++ drop (length xs - a) (drop a xs)) ≡ over xs a b
+unfolding over
+over-part xs a b h =
+    let e : drop (length xs - a) (drop a xs) ≡ [] = drop-of-length-le (drop a xs) {i = length xs - a} (omega (arith, length-drop a xs)) in
+    rw (e, tail-all xs a, zero-add, append-nil, drop-drop)
+
+-- a part to the end that came back with a list at its front; and the next such part, right behind it
+pub back : (xs : List ℕ) (a : ℕ) (ys b : List ℕ) → ys ≡ over (take (length xs - a) (drop a xs)) 0 b → a + length b ≤ length xs
+    → putMid a (length xs - a) xs ys ≡ over xs a b
+back xs a ys b p h = rw p (over-part xs a b h)
+
+pub back-next : (xs xs′ : List ℕ) (a : ℕ) (ys b c : List ℕ) → xs′ ≡ over xs a b → ys ≡ over (take (length xs′ - (a + length b)) (drop (a + length b) xs′)) 0 c
+    → a + length b + length c ≤ length xs → putMid (a + length b) (length xs′ - (a + length b)) xs′ ys ≡ over xs a (b ++ c)
+back-next xs xs′ a ys b c p q h =
+    let n : length xs′ ≡ length xs = rw p (length-over xs a b (omega arith)) in
+    back xs′ (a + length b) ys c q (omega arith) ∙ rw p (over-next xs a b c (omega arith))

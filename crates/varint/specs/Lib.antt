@@ -1,0 +1,5 @@
+-- Unsigned LEB128 in its shortest form.
+pub mod Varint
+pub mod Read
+pub mod Write
+pub mod Trip
