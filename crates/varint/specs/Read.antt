@@ -54,15 +54,18 @@ pub starts : (x : ℕ) → x < 128 → Stands 1 x 128
 starts x h = record { some = omega arith; few = omega arith; low = h; weight = refl }
 
 -- a byte's weight: below 128 it takes no more than the next weight
-pub under : (p b : ℕ) → b < 128 → p * b + p ≤ p * 128
+under : (p b : ℕ) → b < 128 → p * b + p ≤ p * 128
 under p b h =
     let e : p * (b + 1) ≡ p * b + p = mul-add p b 1 ∙ ap (λ (m : ℕ). p * b + m) (mul-one p) in
     omega (arith, e, mul-le-mul-left {m = b + 1} {n = 128} p (omega arith))
 
-pub stands-bound : (i acc p : ℕ) → Stands i acc p → i < 9 → p * 128 ≤ 2 ^ 63
-stands-bound i acc p s h =
+-- seven bits more fit 64
+pub stands-fits : (i acc p b : ℕ) → Stands i acc p → i < 9 → b < 128 → (acc + p * b < 2 ^ 64) × (p * 128 < 2 ^ 64)
+stands-fits i acc p b s h hb =
+    let low = s .low in
     let e : 128 ^ suc i ≡ p * 128 = pow-suc 128 i ∙ ap (λ (m : ℕ). m * 128) (sym (s .weight)) in
-    omega (arith, e, pow-le-pow-right {n = 128} (lit< tt) {i = suc i} {j = 9} h)
+    let f : 128 ^ suc i ≤ 128 ^ 9 = pow-le-pow-right {n = 128} (lit< tt) {i = suc i} {j = 9} h in
+    (omega (arith, e, f, under p b hb), omega (arith, e, f))
 
 pub stands-next : (i acc p b : ℕ) → Stands i acc p → i < 9 → b < 256 → 128 ≤ b → Stands (i + 1) (acc + p * (b - 128)) (p * 128)
 stands-next i acc p b s h hb hb′ =
