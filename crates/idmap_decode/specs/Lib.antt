@@ -1,0 +1,3 @@
+-- What the steps of taking an id map apart answer.
+pub mod Next
+pub mod Head

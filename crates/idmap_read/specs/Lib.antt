@@ -1,0 +1,2 @@
+-- The ways out of the id-map reader.
+pub mod Ways

@@ -1,0 +1,11 @@
+-- The bounds of document 01's table, and the interval that a writer takes for 0, each in this one place.
+-- Assumes nothing.
+use Prim.Native.Nat.{ℕ}
+
+-- vectors in a block, and so ids in a map
+abbrev pub maxVectors : ℕ
+maxVectors = 4096
+
+-- the restart interval that an asked 0 means
+abbrev pub defaultInterval : ℕ
+defaultInterval = 64
