@@ -31,6 +31,14 @@ pub low-more : (i x : ℕ) → lowOf (i + 1) x ≡ suc x
 unfolding lowOf
 low-more i x = rw add-one
 
+pub low-none : (i prev : ℕ) → i ≡ 0 → lowOf i prev ≡ 0
+unfolding lowOf
+low-none i prev z = rw z
+
+pub low-some : (i prev : ℕ) → 0 < i → lowOf i prev ≡ suc prev
+unfolding lowOf
+low-some i prev h = let l : i ≡ suc (i - 1) = omega arith in rw l
+
 -- what a list for the ids holds at its front: those that were read
 abbrev pub Filled : MapRead → List ℕ → Type 0
 Filled m out = take (length (idsOf m)) out ≡ idsOf m

@@ -82,12 +82,3 @@ module _ (left low at v : ℕ) (offs : List ℕ) (h : 0 < left) where
   pub next-sum : 0 < v → low + v ≤ 2 ^ 64 → (x : ℕ) → x ≡ low + v - 1 → Id x ≡ nextOf left low at offs v
   unfolding nextOf idHeld idOf
   next-sum k q x e = rw (l, lt-ltb 0 v k, le-leb (low + v) (2 ^ 64) q, e)
-
--- the least id behind i ids
-pub low-none : (i prev : ℕ) → i ≡ 0 → lowOf i prev ≡ 0
-unfolding lowOf
-low-none i prev z = rw z
-
-pub low-some : (i prev : ℕ) → 0 < i → lowOf i prev ≡ suc prev
-unfolding lowOf
-low-some i prev h = let l : i ≡ suc (i - 1) = omega arith in rw l

@@ -1,9 +1,7 @@
 // An id map taken apart: how long it is, and its ids into a list that has room for them. Every rule that a map breaks is 5.
 ghost use mathlib.Core.Path.{_≡_};
 ghost use Prim.Native.Nat.{_+_, _≤_, _<_};
-ghost use lib.Dec.{leb};
 ghost use lib.ListN.{length, drop};
-ghost use Rattle.idmap.specs.Encode.{leftAfter};
 ghost use Rattle.idmap.specs.Decode.{rawMap, deltaMap, mapOf, mapAnswer};
 ghost use Rattle.idmap.specs.DecodeLaws.{lowOf, Filled};
 ghost use Rattle.idmap.specs.DeltaLaws.{groupAfter};
@@ -15,16 +13,6 @@ use varint::Varint;
 pub enum NextId {
     Id(u64),
     Refused(u32),
-}
-
-// Whether an id may come behind i ids, the last of which is prev.
-fn rises(i: usize, prev: u64, x: u64) -> bool
-    ensures { λ r. ⌜ r ≡ leb (lowOf i prev) x ⌝ }
-{
-    if i == 0 {
-        return true;
-    }
-    prev < x
 }
 
 // The ids of a raw map, whose head is read already.
@@ -41,7 +29,7 @@ fn decode_raw(s: &[u8], count: usize, ids: &mut [u64]) -> Wrote
     let mut prev: u64 = 0;
     while i < count {
         let x = le::u64_at(s, 7 + 8 * i);
-        if !rises(i, prev, x) {
+        if !idmap::rises(i, prev, x) {
             return Wrote::Refused(5);
         }
         ids[i] = x;
@@ -68,7 +56,7 @@ fn next_id(
         if le::u32_at(s, offset) as usize != at {
             return NextId::Refused(5);
         }
-        if rises(i, prev, value) {
+        if idmap::rises(i, prev, value) {
             return NextId::Id(value);
         }
         return NextId::Refused(5);
@@ -80,14 +68,6 @@ fn next_id(
         return NextId::Refused(5);
     }
     NextId::Id(prev + value)
-}
-
-// How many ids of the group are left behind one.
-fn left_after(r: usize, left: usize) -> usize
-    requires { ⌜ 0 < r ⌝ }
-    ensures { λ x. ⌜ x ≡ leftAfter r left ⌝ }
-{
-    if left == 0 { r - 1 } else { left - 1 }
 }
 
 // How many groups have begun behind one id.
@@ -126,7 +106,7 @@ fn decode_delta(s: &[u8], count: usize, r: usize, ids: &mut [u64]) -> Wrote
                         prev = id;
                         pos += length;
                         g = group_after(left, g);
-                        left = left_after(r, left);
+                        left = idmap::left_after(r, left);
                         i += 1;
                     }
                 }

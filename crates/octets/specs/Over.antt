@@ -6,7 +6,7 @@ use mathlib.Core.List.{List, [], _∷_, _++_, append-assoc}
 use native.Mathlib.Nat.{add-zero, zero-add, add-assoc}
 use native.Mathlib.Omega.{arith}
 use lib.ListN.{length, take, drop, getD, set, length-append, length-take, length-drop, take-append-drop}
-use lib.Seq.{drop-cons, set-at, take-at, drop-at, drop-drop, drop-append-add, take-append-le, length-take-le}
+use lib.Seq.{drop-cons, set-at, take-at, drop-at, take-take, take-nil, drop-drop, drop-append-add, drop-append-le, take-append-le, take-append-add, length-take-le}
 
 -- the list s with xs written at a place
 unfoldable pub over : List ℕ → ℕ → List ℕ → List ℕ
@@ -84,3 +84,50 @@ pub over-at : (s : List ℕ) (at : ℕ) (xs : List ℕ) → at ≤ length s → 
 unfolding over
 over-at s at xs h =
     rw (drop-at (take at s) (xs ++ drop (at + length xs) s) at (length-take-le at s h)) (take-at xs (drop (at + length xs) s) (length xs) refl)
+
+-- ---- two places that do not touch
+
+drop-take : (k c : ℕ) (b : List ℕ) → drop k (take c b) ≡ take (c - k) (drop k b)
+drop-take zero c b = let e : c - 0 ≡ c = omega arith in rw e
+drop-take (suc k) zero b =
+    let e : 0 - suc k ≡ 0 = omega arith in
+    rw e
+drop-take (suc k) (suc c) [] = sym (take-nil (suc c - suc k))
+drop-take (suc k) (suc c) (x ∷ b) =
+    let e : suc c - suc k ≡ c - k = omega arith in
+    rw e (drop-take k c b)
+
+take-over : (b : List ℕ) (a : ℕ) (xs : List ℕ) (c : ℕ) → a + length xs ≤ c → a ≤ length b
+    → take c (over b a xs) ≡ take a b ++ (xs ++ take (c - (a + length xs)) (drop (a + length xs) b))
+unfolding over
+take-over b a xs c h k =
+    let hp : length (take a b ++ xs) ≡ a + length xs = simp (length-append, length-take) (omega arith) in
+    let e : c ≡ length (take a b ++ xs) + (c - (a + length xs)) = omega arith in
+    ap (take c) (sym (append-assoc (take a b) xs (drop (a + length xs) b)))
+    ∙ ap (λ (n : ℕ). take n ((take a b ++ xs) ++ drop (a + length xs) b)) e
+    ∙ take-append-add (take a b ++ xs) (drop (a + length xs) b) (c - (a + length xs))
+    ∙ append-assoc (take a b) xs (take (c - (a + length xs)) (drop (a + length xs) b))
+
+drop-over : (b : List ℕ) (a : ℕ) (xs : List ℕ) (n : ℕ) → a + length xs ≤ n → a ≤ length b → drop n (over b a xs) ≡ drop n b
+drop-over b a xs n h k =
+    let e : n ≡ a + length xs + (n - (a + length xs)) = omega arith in
+    ap (λ (m : ℕ). drop m (over b a xs)) e
+    ∙ sym (drop-drop (n - (a + length xs)) (a + length xs) (over b a xs))
+    ∙ ap (drop (n - (a + length xs))) (over-behind b a xs k)
+    ∙ drop-drop (n - (a + length xs)) (a + length xs) b
+    ∙ ap (λ (m : ℕ). drop m b) (sym e)
+
+-- what is written at two places may be written in either order
+pub over-swap : (b : List ℕ) (a : ℕ) (xs : List ℕ) (c : ℕ) (ys : List ℕ) → a + length xs ≤ c → c ≤ length b → over (over b c ys) a xs ≡ over (over b a xs) c ys
+unfolding over
+over-swap b a xs c ys h k =
+    let left : drop (a + length xs) (over b c ys) ≡ take (c - (a + length xs)) (drop (a + length xs) b) ++ (ys ++ drop (c + length ys) b) =
+    drop-append-le (a + length xs) (take c b) (ys ++ drop (c + length ys) b) (simp length-take (omega arith))
+    ∙ ap (λ (l : List ℕ). l ++ (ys ++ drop (c + length ys) b)) (drop-take (a + length xs) c b) in
+    let front : take a (over b c ys) ≡ take a b =
+    take-append-le a (take c b) (ys ++ drop (c + length ys) b) (simp length-take (omega arith)) ∙ take-take a c b (omega arith) in
+    ap (λ (l : List ℕ). l ++ (xs ++ drop (a + length xs) (over b c ys))) front
+    ∙ ap (λ (l : List ℕ). take a b ++ (xs ++ l)) left
+    ∙ sym (ap (λ (l : List ℕ). l ++ (ys ++ drop (c + length ys) (over b a xs))) (take-over b a xs c h (omega arith))
+    ∙ ap (λ (l : List ℕ). (take a b ++ (xs ++ take (c - (a + length xs)) (drop (a + length xs) b))) ++ (ys ++ l)) (drop-over b a xs (c + length ys) (omega arith) (omega arith))
+    ∙ simp append-assoc)

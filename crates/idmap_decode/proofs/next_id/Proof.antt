@@ -2,7 +2,8 @@
 -- Assumes nothing.
 use mathlib.Core.Path.{_≡_, sym, _∙_}
 use native.Mathlib.Omega.{arith}
-use Rattle.idmap_decode.specs.Next.{next-place, next-start, next-low, next-none, next-over, next-sum, low-some}
+use Rattle.idmap.specs.DecodeLaws.{low-some}
+use Rattle.idmap_decode.specs.Next.{next-place, next-start, next-low, next-none, next-over, next-sum}
 use borrow.Author.Needs.{needs}
 use Rattle.idmap_decode.proofs.next_id.Statement.{statement}
 use Rattle.idmap_decode.proofs.next_id.Tie as tie

@@ -1,14 +1,13 @@
--- `idmap_decode::rises` meets its contract: behind no id any may come, else one above the last.
+-- `idmap::rises` meets its contract: behind no id any may come, else one above the last.
 -- Assumes nothing.
 use Prim.Native.Nat.{suc, zero}
 use mathlib.Core.Path.{_≡_, refl, sym}
 use native.Mathlib.Omega.{arith}
 use lib.Dec.{leb}
 use borrow.Author.Tests.{le-leb}
-use Rattle.idmap.specs.DecodeLaws.{lowOf}
-use Rattle.idmap_decode.specs.Next.{low-none, low-some}
-use Rattle.idmap_decode.proofs.rises.Statement.{statement}
-use Rattle.idmap_decode.proofs.rises.Tie as tie
+use Rattle.idmap.specs.DecodeLaws.{lowOf, low-none, low-some}
+use Rattle.idmap.proofs.rises.Statement.{statement}
+use Rattle.idmap.proofs.rises.Tie as tie
 
 returns : tie.Need-returns
 returns c = rw (low-none _ (c .before .args .prev) (c .if1 .taken)) (sym (le-leb 0 (c .before .args .x) (omega arith)))

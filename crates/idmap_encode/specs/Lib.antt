@@ -1,0 +1,2 @@
+-- Where the loops stand that write an id map.
+pub mod Put
