@@ -1,0 +1,88 @@
+-- `idmap_write::put` meets its contract, by the encoding: the head, and the body right behind it.
+-- Assumes nothing.
+use Prim.Native.Nat.{_≤_, _<_, _+_, _-_, _*_}
+use mathlib.Core.Path.{_≡_, sym, ap, _∙_}
+use native.Mathlib.Omega.{arith}
+use lib.ListN.{length}
+use Rattle.idmap.specs.Decode.{groups}
+use Rattle.idmap.specs.EncodeLaws.{length-head}
+use Rattle.idmap_write.specs.Ways.{Raw, raw-facts, Delta, delta-facts, whole-laid}
+use borrow.Author.Needs.{needs}
+use Rattle.idmap_write.proofs.put.Statement.{statement}
+use Rattle.idmap_write.proofs.put.Tie as tie
+
+raws : (c : tie.Then1) → Raw (c .before .before .before .args .ids .now) (c .before .before .before .args .encoding) (c .before .before .before .args .interval)
+raws c = raw-facts _ _ _ (c .before .before .before .pre .0) (c .if1 .taken)
+
+deltas : (c : tie.After-interval-of) → Delta (c .before .before .before .before .args .ids .now) (c .before .before .before .before .args .encoding) (c .before .before .before .before .args .interval) (c .interval-of .result)
+deltas c = delta-facts _ _ _ _ (c .before .before .before .before .pre .0) (c .before .if1 .left) (c .interval-of .ensures)
+
+put-head-requires : tie.Need-put-head-requires
+put-head-requires c κs = let f = raws (c .before) in omega (arith, f .size, c .before .before .before .before .pre .1)
+
+put-raw-requires : tie.Need-put-raw-requires
+put-raw-requires c κs = let f = raws (c .before .before .before .before .before) in omega (arith, f .size, c .before .before .before .before .before .before .before .before .pre .1, c .before .before .before .put-head .kept .0)
+
+same-length : tie.Need-same-length
+same-length c = search needs
+
+returns : tie.Need-returns
+returns c =
+    let f = raws (c .before .before .before .before .before .before .before .before) in
+    rw (f .bytes) (whole-laid _ _ _ _ _ (length-head 0 0 _) (omega (arith, f .size, c .before .before .before .before .before .before .before .before .before .before .before .pre .1)) (c .before .before .before .before .before .before .put-head .ensures) (c .before .before .put-raw .ensures))
+
+interval-of-requires : tie.Need-interval-of-requires
+interval-of-requires c κs = search needs
+
+sub-start : tie.Need-sub-start
+sub-start c = omega (arith, deltas c .pos)
+
+add-start : tie.Need-add-start
+add-start c = let f = deltas c in omega (arith, f .most, f .small)
+
+div-start : tie.Need-div-start
+div-start c = let f = deltas c in omega (arith, f .pos)
+
+mul-start : tie.Need-mul-start
+unfolding groups
+mul-start c = let f = deltas c in omega (arith, f .few, f .most, f .small)
+
+add-start-2 : tie.Need-add-start-2
+unfolding groups
+add-start-2 c = let f = deltas c in omega (arith, f .few, f .most, f .small)
+
+put-head-requires-2 : tie.Need-put-head-requires-2
+put-head-requires-2 c κs = let f = deltas (c .before) in omega (arith, f .size, c .before .before .before .before .before .pre .1)
+
+put-deltas-requires : tie.Need-put-deltas-requires
+unfolding groups
+put-deltas-requires c κs =
+    let f = deltas (c .before .before .before .before .before) in
+    ((f .pos, f .up), (f .begins, omega (arith, f .size, c .before .before .before .before .before .before .before .before .before .pre .1, c .before .before .before .put-head2 .kept .0)))
+
+same-length-2 : tie.Need-same-length-2
+same-length-2 c = search needs
+
+returns-2 : tie.Need-returns-2
+returns-2 c =
+    let f = deltas (c .before .before .before .before .before .before .before .before) in
+    rw (f .bytes) (whole-laid _ _ _ _ _ (length-head 1 _ _) (omega (arith, f .size, c .before .before .before .before .before .before .before .before .before .before .before .before .pre .1)) (c .before .before .before .before .before .before .put-head2 .ensures) (c .before .before .put-deltas .ensures))
+
+pub put-spec : {M : Type 1} → statement M
+put-spec =
+    tie.close
+    (tie.spec
+    put-head-requires
+    put-raw-requires
+    same-length
+    returns
+    interval-of-requires
+    sub-start
+    add-start
+    div-start
+    mul-start
+    add-start-2
+    put-head-requires-2
+    put-deltas-requires
+    same-length-2
+    returns-2)

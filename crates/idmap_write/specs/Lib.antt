@@ -1,0 +1,2 @@
+-- The id-map writer by its ways out.
+pub mod Ways
