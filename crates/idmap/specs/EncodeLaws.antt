@@ -80,7 +80,7 @@ pub ids-first : (ids : List ℕ) → risesFrom 0 ids ≡ true → IdsAt ids 0 0 
 unfolding lowOf
 ids-first ids h = record { few = omega arith; first = λ z. refl; up = h }
 
-and-true : (a b : Bool) → a && b ≡ true → (a ≡ true) × (b ≡ true)
+pub and-true : (a b : Bool) → a && b ≡ true → (a ≡ true) × (b ≡ true)
 and-true true b e = (refl, e)
 and-true false b e = absurd (let z : _≡_ {A = ℕ} 0 1 = cc in omega arith)
 

@@ -5,4 +5,5 @@ pub mod DecodeLaws
 pub mod DeltaLaws
 pub mod Count
 pub mod EncodeLaws
+pub mod Accepted
 pub mod Trip

@@ -80,3 +80,17 @@ read-fits s v n e = go (decode 10 s) (decode-fits 10 s) e
     go : (d : Varint) → ((w m : ℕ) → d ≡ Value w m → m ≤ length s) → below64 d ≡ Value v n → (n ≤ length s) × (v < 2 ^ 64)
     go (Refused x) ih q = let z : _≡_ {A = ℕ} 0 1 = cc in omega arith
     go (Value w m) ih q = inner (ltb w (2 ^ 64)) w m refl (ih w m refl) q
+
+-- a varint has at most ten bytes
+leb-short : (k n : ℕ) → length (leb128 k n) ≤ k
+unfolding leb128
+leb-short zero n = omega arith
+leb-short (suc k) n = go (ltb n 128) (leb-short k (n / 128))
+  where
+    go : (t : Bool) → length (leb128 k (n / 128)) ≤ k → length (cond t (n ∷ []) ((n % 128 + 128) ∷ leb128 k (n / 128))) ≤ suc k
+    go true h = omega arith
+    go false h = omega arith
+
+pub varint-short : (n : ℕ) → length (varintOf n) ≤ 10
+unfolding varintOf
+varint-short n = leb-short 10 n
