@@ -1,20 +1,19 @@
--- An answer as document 01 has it: 0 and the values of an accepted call, or the number of the refusal.
+-- An answer as document 01 has it: the values of an accepted call, or the number of a refusal.
 -- Assumes nothing.
 use Prim.Native.Nat.{ℕ}
-use mathlib.Core.Bool.{cond}
 use mathlib.Core.List.{List, []}
-use lib.Dec.{eqb}
 
-pub record Answer : Type 0 where
-  pub number : ℕ
-  pub values : List ℕ
+-- a refusal carries no values, but for opening's 2, which carries the boundaries tried
+pub data Answer : Type 0 where
+  Accepted : List ℕ → Answer
+  Refusal : ℕ → List ℕ → Answer
 
-abbrev pub accepted : List ℕ → Answer
-accepted vs = record { number = 0; values = vs }
-
-abbrev pub refused : ℕ → Answer
-refused n = record { number = n; values = [] }
+-- the number that an exported call returns: 0 where it accepts
+unfoldable pub number : Answer → ℕ
+number (Accepted vs) = 0
+number (Refusal n vs) = n
 
 -- what an array for the values holds after the call: the values, or what it held where the call refused
-abbrev pub outOf : List ℕ → Answer → List ℕ
-outOf out a = cond (eqb (a .number) 0) (a .values) out
+unfoldable pub outOf : List ℕ → Answer → List ℕ
+outOf out (Accepted vs) = vs
+outOf out (Refusal n vs) = out

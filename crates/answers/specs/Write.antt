@@ -10,14 +10,14 @@ use lib.Dec.{eqb, leb}
 use lib.ListN.{length}
 use borrow.Author.Tests.{eq-eqb, ne-eqb, le-leb, lt-leb}
 use Rattle.octets.specs.Over.{over}
-use Rattle.answers.specs.Answer.{Answer, accepted, refused}
+use Rattle.answers.specs.Answer.{Answer, Accepted, Refusal}
 use Rattle.answers.specs.declared.Wrote.{Wrote}
 use Rattle.answers.specs.declared.Wrote.the-variants.{Length, Refused}
 
 -- document 01's number and values for each case
 abbrev pub wroteAnswer : Wrote → Answer
-wroteAnswer (Length n) = accepted (n ∷ [])
-wroteAnswer (Refused n) = refused n
+wroteAnswer (Length n) = Accepted (n ∷ [])
+wroteAnswer (Refused n) = Refusal n []
 
 -- bad input is refused first, by its own number, then a buffer without room by 9
 unfoldable pub writeAnswer : ℕ → List ℕ → List ℕ → Wrote

@@ -4,7 +4,7 @@ use Prim.Native.Nat.{ℕ, zero, suc, _+_, _-_, _*_, _/_, _%_, _^_}
 use mathlib.Core.List.{List, [], _∷_}
 use mathlib.Core.Bool.{cond}
 use lib.Dec.{ltb, eqb}
-use Rattle.answers.specs.Answer.{Answer, accepted, refused}
+use Rattle.answers.specs.Answer.{Answer, Accepted, Refusal}
 use Rattle.varint.specs.declared.Varint.{Varint}
 use Rattle.varint.specs.declared.Varint.the-variants.{Value, Refused}
 
@@ -43,8 +43,8 @@ readVarint s = below64 (decode 10 s)
 
 -- document 01's number and values for each case
 abbrev pub varintAnswer : Varint → Answer
-varintAnswer (Value v n) = accepted (v ∷ n ∷ [])
-varintAnswer (Refused e) = refused e
+varintAnswer (Value v n) = Accepted (v ∷ n ∷ [])
+varintAnswer (Refused e) = Refusal e []
 
 -- what is read behind i bytes, whose value so far is acc, where the next has the weight p
 unfoldable pub onto : ℕ → ℕ → ℕ → Varint → Varint
