@@ -1,4 +1,4 @@
-// CRC32C of a slice, in two lanes of eight bytes.
+// CRC32C of a slice, in four lanes of eight bytes.
 // No table stands here. Eight steps with a polynomial that is known are a loop that the compiler replaces by a look-up in a table of
 // 256 numbers, which it lays down once among the program's constants; a constant array of the source would be copied at each call.
 ghost use mathlib.Core.Path.{_≡_};
@@ -36,9 +36,9 @@ fn steps(p: u64, k: usize, x: u64) -> Stepped
     Stepped { register, added }
 }
 
-// What stands for eight bytes sixteen bytes on. Each byte is multiplied, and the products are added; they reach eight bits above the register.
+// What stands for eight bytes thirty-two bytes on. Each byte is multiplied, and the products are added; they reach eight bits above the register.
 fn far(x: u64) -> u64
-    ensures { λ r. ⌜ Ahead 128 x r ⌝ }
+    ensures { λ r. ⌜ Ahead 256 x r ⌝ }
 {
     let x1 = x / 256;
     let x2 = x1 / 256;
@@ -47,14 +47,14 @@ fn far(x: u64) -> u64
     let x5 = x4 / 256;
     let x6 = x5 / 256;
     let x7 = x6 / 256;
-    let r7 = steps(0x7A_1F6B_2400, 8, x7).register;
-    let r6 = steps(0x65_AB3D_D280, 8, x6 % 256).register ^ r7;
-    let r5 = steps(0x4B_B8FB_E080, 8, x5 % 256).register ^ r6;
-    let r4 = steps(0x18_B8EA_1800, 8, x4 % 256).register ^ r5;
-    let r3 = steps(0x18_691C_3280, 8, x3 % 256).register ^ r4;
-    let r2 = steps(0x2A_03AA_A300, 8, x2 % 256).register ^ r3;
-    let r1 = steps(0x33_C77E_8080, 8, x1 % 256).register ^ r2;
-    steps(0x79_0606_FF00, 8, x % 256).register ^ r1
+    let r7 = steps(0x17_1A65_CE80, 8, x7).register;
+    let r6 = steps(0x16_D742_0780, 8, x6 % 256).register ^ r7;
+    let r5 = steps(0x2F_1F49_5000, 8, x5 % 256).register ^ r6;
+    let r4 = steps(0x51_0AC5_9A00, 8, x4 % 256).register ^ r5;
+    let r3 = steps(0x7B_EDE5_9280, 8, x3 % 256).register ^ r4;
+    let r2 = steps(0xA_DDA0_8480, 8, x2 % 256).register ^ r3;
+    let r1 = steps(0x3C_53B0_4680, 8, x1 % 256).register ^ r2;
+    steps(0x1E_D368_6580, 8, x % 256).register ^ r1
 }
 
 // The register after eight bytes: six of them sixteen bits ahead of the end, and then the sixteen.
@@ -116,30 +116,36 @@ fn rest(c: u64, s: &[u8], at: usize) -> u64
     x
 }
 
-// The register after a slice, in two lanes: the first takes in every other word, the second the words between them.
-// Neither waits for the other, until the last two words bring them together.
+// The register after a slice, in four lanes, each of which takes in every fourth word.
+// None waits for another, until the last four words bring them together.
 fn lanes(c: u64, s: &[u8]) -> u64
-    requires { ⌜ 16 ≤ length (now s) ⌝ }
+    requires { ⌜ 32 ≤ length (now s) ⌝ }
     ensures { λ r. ⌜ r ≡ crcFrom c (now (s .entry)) ⌝ }
 {
     let mut a = c;
     let mut b: u64 = 0;
+    let mut d: u64 = 0;
+    let mut e: u64 = 0;
     let mut i: usize = 0;
-    while s.len() - i >= 32 {
+    while s.len() - i >= 64 {
         a = far(a ^ word_at(s, i));
         b = far(b ^ word_at(s, i + 8));
-        i += 16;
+        d = far(d ^ word_at(s, i + 16));
+        e = far(e ^ word_at(s, i + 24));
+        i += 32;
     }
     let x = near(a ^ word_at(s, i));
     let y = near(x ^ b ^ word_at(s, i + 8));
-    rest(y, s, i + 16)
+    let z = near(y ^ d ^ word_at(s, i + 16));
+    let w = near(z ^ e ^ word_at(s, i + 24));
+    rest(w, s, i + 32)
 }
 
 // The CRC32C of a slice.
 pub fn checksum(data: &[u8]) -> u32
     ensures { λ r. ⌜ r ≡ crcOf (now («data» .entry)) ⌝ }
 {
-    if data.len() < 32 {
+    if data.len() < 64 {
         return (rest(0xFFFF_FFFF, data, 0) ^ 0xFFFF_FFFF) as u32;
     }
     (lanes(0xFFFF_FFFF, data) ^ 0xFFFF_FFFF) as u32
