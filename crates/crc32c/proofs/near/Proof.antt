@@ -1,0 +1,57 @@
+-- `crc32c::near` meets its contract: six bytes are taken on to the last two, and those two are sixteen steps.
+-- Assumes nothing.
+use mathlib.Core.Path.{_∙_}
+use Rattle.crc32c.specs.Ahead.{multiple-at, ahead-none, ahead-more}
+use borrow.Author.Needs.{needs}
+use Rattle.crc32c.proofs.near.Statement.{statement}
+use Rattle.crc32c.proofs.near.Tie as tie
+
+steps-requires : tie.Need-steps-requires
+steps-requires c κs = search needs
+
+steps-requires-2 : tie.Need-steps-requires-2
+steps-requires-2 c κs = search needs
+
+steps-requires-3 : tie.Need-steps-requires-3
+steps-requires-3 c κs = search needs
+
+steps-requires-4 : tie.Need-steps-requires-4
+steps-requires-4 c κs = search needs
+
+steps-requires-5 : tie.Need-steps-requires-5
+steps-requires-5 c κs = search needs
+
+steps-requires-6 : tie.Need-steps-requires-6
+steps-requires-6 c κs = search needs
+
+steps-requires-7 : tie.Need-steps-requires-7
+steps-requires-7 c κs = search needs
+
+returns : tie.Need-returns
+returns c =
+    let c6 = c .before .before in
+    let c5 = c6 .before .before in
+    let c4 = c5 .before .before in
+    let c3 = c4 .before .before in
+    let c2 = c3 .before .before in
+    let c1 = c2 .before .before in
+    c .steps7 .ensures
+    ∙ ahead-more 40 _ (c1 .before .args .x) _ _ (multiple-at 5) (c6 .steps6 .ensures)
+    (ahead-more 32 _ _ _ _ (multiple-at 4) (c5 .steps5 .ensures)
+    (ahead-more 24 _ _ _ _ (multiple-at 3) (c4 .steps4 .ensures)
+    (ahead-more 16 _ _ _ _ (multiple-at 2) (c3 .steps3 .ensures)
+    (ahead-more 8 _ _ _ _ (multiple-at 1) (c2 .steps2 .ensures) (ahead-more 0 _ _ _ _ (multiple-at 0) (c1 .steps .ensures) (ahead-none _))))))
+    8
+
+pub near-spec : {M : Type 1} → statement M
+near-spec =
+    tie.close
+    (tie.spec
+    steps-requires
+    steps-requires-2
+    steps-requires-3
+    steps-requires-4
+    steps-requires-5
+    steps-requires-6
+    steps-requires-7
+    returns)

@@ -1,0 +1,152 @@
+// CRC32C of a slice, in four lanes of eight bytes.
+// No table stands here. Eight steps with a polynomial that is known are a loop that the compiler replaces by a look-up in a table of
+// 256 numbers, which it lays down once among the program's constants; a constant array of the source would be copied at each call.
+ghost use mathlib.Core.Path.{_≡_};
+ghost use Prim.Native.Nat.{_+_, _<_, _≤_};
+ghost use lib.ListN.{length, drop};
+ghost use Rattle.crc32c.specs.Crc.{poly, bits, crcFrom, crcOf};
+ghost use Rattle.crc32c.specs.Words.{eight};
+ghost use Rattle.crc32c.specs.Ahead.{Ahead};
+
+const POLYNOMIAL: u64 = 0x82F6_3B78;
+
+// The register after some steps, and what it is after the last one with the polynomial added.
+struct Stepped {
+    register: u64,
+    added: u64,
+}
+
+// The register after k steps with a polynomial. No caller reads `added`. It is handed back because the compiler knows the loop again as
+// one for a table only where the choice between the two registers is left as it is written, and it is where both have a use.
+fn steps(p: u64, k: usize, x: u64) -> Stepped
+    ensures { λ r. ⌜ r .register ≡ bits p k x ⌝ }
+{
+    let mut register = x;
+    let mut added: u64 = 0;
+    let mut i: usize = 0;
+    while i < k {
+        added = (register / 2) ^ p;
+        if register % 2 == 1 {
+            register = added;
+        } else {
+            register = register / 2;
+        }
+        i += 1;
+    }
+    Stepped { register, added }
+}
+
+// What stands for eight bytes thirty-two bytes on. Each byte is multiplied, and the products are added; they reach eight bits above the register.
+fn far(x: u64) -> u64
+    ensures { λ r. ⌜ Ahead 256 x r ⌝ }
+{
+    let x1 = x / 256;
+    let x2 = x1 / 256;
+    let x3 = x2 / 256;
+    let x4 = x3 / 256;
+    let x5 = x4 / 256;
+    let x6 = x5 / 256;
+    let x7 = x6 / 256;
+    let r7 = steps(0x17_1A65_CE80, 8, x7).register;
+    let r6 = steps(0x16_D742_0780, 8, x6 % 256).register ^ r7;
+    let r5 = steps(0x2F_1F49_5000, 8, x5 % 256).register ^ r6;
+    let r4 = steps(0x51_0AC5_9A00, 8, x4 % 256).register ^ r5;
+    let r3 = steps(0x7B_EDE5_9280, 8, x3 % 256).register ^ r4;
+    let r2 = steps(0xA_DDA0_8480, 8, x2 % 256).register ^ r3;
+    let r1 = steps(0x3C_53B0_4680, 8, x1 % 256).register ^ r2;
+    steps(0x1E_D368_6580, 8, x % 256).register ^ r1
+}
+
+// The register after eight bytes: six of them sixteen bits ahead of the end, and then the sixteen.
+fn near(x: u64) -> u64
+    ensures { λ r. ⌜ r ≡ bits poly 64 x ⌝ }
+{
+    let x1 = x / 256;
+    let x2 = x1 / 256;
+    let x3 = x2 / 256;
+    let x4 = x3 / 256;
+    let x5 = x4 / 256;
+    let x6 = x5 / 256;
+    let r5 = steps(0x79_35C1_8180, 8, x5 % 256).register ^ x6;
+    let r4 = steps(0x9_D14C_3B80, 8, x4 % 256).register ^ r5;
+    let r3 = steps(0x52_A0C9_3F00, 8, x3 % 256).register ^ r4;
+    let r2 = steps(0x6E_A2D5_5C00, 8, x2 % 256).register ^ r3;
+    let r1 = steps(0x1C_08B7_D600, 8, x1 % 256).register ^ r2;
+    let r0 = steps(0x77_9835_8C80, 8, x % 256).register ^ r1;
+    steps(POLYNOMIAL, 16, r0).register
+}
+
+fn wide(b: u8) -> u64
+    ensures { λ r. ⌜ (r ≡ b) × (r < 256) ⌝ }
+{
+    b as u64
+}
+
+// The number of the eight bytes at a place, the lowest first. The compiler makes one load of the eight.
+fn word_at(s: &[u8], at: usize) -> u64
+    requires { ⌜ at + 8 ≤ length (now s) ⌝ }
+    ensures { λ r. ⌜ r ≡ eight (now (s .entry)) at ⌝ }
+{
+    let a = wide(s[at]);
+    let b = wide(s[at + 1]);
+    let c = wide(s[at + 2]);
+    let d = wide(s[at + 3]);
+    let e = wide(s[at + 4]);
+    let f = wide(s[at + 5]);
+    let g = wide(s[at + 6]);
+    let h = wide(s[at + 7]);
+    a + 256 * (b + 256 * (c + 256 * (d + 256 * (e + 256 * (f + 256 * (g + 256 * h))))))
+}
+
+// The register after all that stands in a slice from a place on: word by word, and the last bytes one by one.
+fn rest(c: u64, s: &[u8], at: usize) -> u64
+    requires { ⌜ at ≤ length (now s) ⌝ }
+    ensures { λ r. ⌜ r ≡ crcFrom c (drop at (now (s .entry))) ⌝ }
+{
+    let mut x = c;
+    let mut i = at;
+    while s.len() - i >= 8 {
+        x = near(x ^ word_at(s, i));
+        i += 8;
+    }
+    while i < s.len() {
+        x = steps(POLYNOMIAL, 8, x ^ wide(s[i])).register;
+        i += 1;
+    }
+    x
+}
+
+// The register after a slice, in four lanes, each of which takes in every fourth word.
+// None waits for another, until the last four words bring them together.
+fn lanes(c: u64, s: &[u8]) -> u64
+    requires { ⌜ 32 ≤ length (now s) ⌝ }
+    ensures { λ r. ⌜ r ≡ crcFrom c (now (s .entry)) ⌝ }
+{
+    let mut a = c;
+    let mut b: u64 = 0;
+    let mut d: u64 = 0;
+    let mut e: u64 = 0;
+    let mut i: usize = 0;
+    while s.len() - i >= 64 {
+        a = far(a ^ word_at(s, i));
+        b = far(b ^ word_at(s, i + 8));
+        d = far(d ^ word_at(s, i + 16));
+        e = far(e ^ word_at(s, i + 24));
+        i += 32;
+    }
+    let x = near(a ^ word_at(s, i));
+    let y = near(x ^ b ^ word_at(s, i + 8));
+    let z = near(y ^ d ^ word_at(s, i + 16));
+    let w = near(z ^ e ^ word_at(s, i + 24));
+    rest(w, s, i + 32)
+}
+
+// The CRC32C of a slice.
+pub fn checksum(data: &[u8]) -> u32
+    ensures { λ r. ⌜ r ≡ crcOf (now («data» .entry)) ⌝ }
+{
+    if data.len() < 64 {
+        return (rest(0xFFFF_FFFF, data, 0) ^ 0xFFFF_FFFF) as u32;
+    }
+    (lanes(0xFFFF_FFFF, data) ^ 0xFFFF_FFFF) as u32
+}
