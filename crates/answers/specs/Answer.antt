@@ -1,7 +1,8 @@
 -- An answer as document 01 has it: the values of an accepted call, or the number of a refusal.
 -- Assumes nothing.
 use Prim.Native.Nat.{ℕ}
-use mathlib.Core.List.{List, []}
+use mathlib.Core.List.{List}
+use lib.Seq.{sets}
 
 -- a refusal carries no values, but for opening's 2, which carries the boundaries tried
 pub data Answer : Type 0 where
@@ -13,7 +14,7 @@ unfoldable pub number : Answer → ℕ
 number (Accepted vs) = 0
 number (Refusal n vs) = n
 
--- what an array for the values holds after the call: the values, or what it held where the call refused
+-- what an array for the values holds after the call: the values stored from its front on, or what it held where the call refused
 unfoldable pub outOf : List ℕ → Answer → List ℕ
-outOf out (Accepted vs) = vs
+outOf out (Accepted vs) = sets out 0 vs
 outOf out (Refusal n vs) = out

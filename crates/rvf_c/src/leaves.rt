@@ -53,7 +53,12 @@ pub extern "C" fn rvf_varint_write(buffer: &mut [u8], value: u64, out: &mut [u64
 
 // The ids of a map of `count` ids at the front of the bytes, and the map's length: 5, then 9.
 #[no_mangle]
-pub extern "C" fn rvf_idmap_read(bytes: &[u8], count: u64, ids: &mut [u64], out: &mut [u64; 1]) -> u32
+pub extern "C" fn rvf_idmap_read(
+    bytes: &[u8],
+    count: u64,
+    ids: &mut [u64],
+    out: &mut [u64; 1],
+) -> u32
     ensures { λ r. ⌜ r ≡ number (wroteAnswer (readAnswer (mapOf count (now (bytes .entry))) (now (ids .entry)))) ⌝ }
     ensures { λ _. ⌜ now (ids .exit) ≡ readBuffer (mapOf count (now (bytes .entry))) (now (ids .entry)) ⌝ }
     ensures { λ _. ⌜ now (out .exit) ≡ outOf (now (out .entry)) (wroteAnswer (readAnswer (mapOf count (now (bytes .entry))) (now (ids .entry)))) ⌝ }
@@ -70,7 +75,13 @@ pub extern "C" fn rvf_idmap_read(bytes: &[u8], count: u64, ids: &mut [u64], out:
 
 // The map of ids at the front of a buffer: its length, or 14, then 9.
 #[no_mangle]
-pub extern "C" fn rvf_idmap_write(buffer: &mut [u8], ids: &[u64], encoding: u64, interval: u64, out: &mut [u64; 1]) -> u32
+pub extern "C" fn rvf_idmap_write(
+    buffer: &mut [u8],
+    ids: &[u64],
+    encoding: u64,
+    interval: u64,
+    out: &mut [u64; 1],
+) -> u32
     ensures { λ r. ⌜ r ≡ number (wroteAnswer (writeAnswer (mapBad (now (ids .entry)) encoding interval) (mapBytes (now (ids .entry)) encoding interval) (now (buffer .entry)))) ⌝ }
     ensures { λ _. ⌜ now (buffer .exit) ≡ writeBuffer (mapBad (now (ids .entry)) encoding interval) (mapBytes (now (ids .entry)) encoding interval) (now (buffer .entry)) ⌝ }
     ensures { λ _. ⌜ now (out .exit) ≡ outOf (now (out .entry)) (wroteAnswer (writeAnswer (mapBad (now (ids .entry)) encoding interval) (mapBytes (now (ids .entry)) encoding interval) (now (buffer .entry)))) ⌝ }
