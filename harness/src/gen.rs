@@ -2,6 +2,7 @@
 //! seed, so a failing case comes back in every run.
 
 pub mod maps;
+pub mod payloads;
 
 /// The xorshift64* generator.
 #[derive(Clone)]
