@@ -1,6 +1,8 @@
 //! Generators of test cases. All randomness is a xorshift generator with a fixed
 //! seed, so a failing case comes back in every run.
 
+pub mod batches;
+pub mod files;
 pub mod maps;
 pub mod payloads;
 
