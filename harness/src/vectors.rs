@@ -45,19 +45,25 @@ pub fn run(text: &str, calls: &dyn Calls, lister: bool) -> Summary {
     summary
 }
 
+/// The layer whose call a kind of line makes; `None` for the lister's text.
+pub fn layer(kind: &str) -> Option<Layer> {
+    match kind {
+        "idmap_read" | "idmap_write" => Some(Layer::Leaves),
+        "vec_check" | "vec_write" => Some(Layer::Vec),
+        "open" | "entry" => Some(Layer::Open),
+        "payload" | "vector" | "component" => Some(Layer::Reading),
+        "append" => Some(Layer::Append),
+        "list" => None,
+        other => panic!("a line of unknown kind: {other}"),
+    }
+}
+
 /// The answer to a line, in the file's own words; `None` where the call is absent.
 fn answer(words: &[&str], files: &HashMap<&str, Vec<u8>>, calls: &dyn Calls, lister: bool) -> Option<String> {
-    let layer = match words[0] {
-        "idmap_read" | "idmap_write" => Layer::Leaves,
-        "vec_check" | "vec_write" => Layer::Vec,
-        "open" | "entry" => Layer::Open,
-        "payload" | "vector" | "component" => Layer::Reading,
-        "append" => Layer::Append,
-        "list" => return lister.then(|| hex(lister::list(&files[words[1]]).as_bytes())),
-        other => panic!("a line of unknown kind: {other}"),
-    };
-    if !calls.has(layer) {
-        return None;
+    match layer(words[0]) {
+        None => return lister.then(|| hex(lister::list(&files[words[1]]).as_bytes())),
+        Some(layer) if !calls.has(layer) => return None,
+        Some(_) => (),
     }
     let n = |at: usize| number(words[at]);
     let file = || &files[words[1]];

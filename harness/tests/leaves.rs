@@ -189,6 +189,22 @@ fn maps_at_every_edge() {
     }
 }
 
+/// Maps that keep every rule but the bound on their count.
+#[test]
+fn maps_of_too_many_ids() {
+    let mut rng = Rng::new(108);
+    for count in [4_095, 4_096, 4_097, 4_098, 5_000, 8_192] {
+        let ids = maps::ids(&mut rng, count);
+        for interval in [0, 1, 2, 64, 4_096, 4_097, 65_535] {
+            let map = maps::of_any_count(&ids, interval);
+            same_map_read(&map, count as u64, count);
+            same_map_read(&map, count as u64, 0);
+            let accepted = runner::idmap_read(&Library, &map, count as u64, count).number == 0;
+            assert_eq!(accepted, count <= 4_096, "{count} ids, interval {interval}");
+        }
+    }
+}
+
 /// Valid and broken maps of every kind.
 #[test]
 fn maps_valid_and_broken() {

@@ -106,11 +106,14 @@ fn payloads_at_the_bounds() {
         let accepted = same_check(&draft.bytes()) == 0;
         assert_eq!(accepted, count <= 64, "{count} blocks");
     }
-    for (count, dim, dtype) in [(4_096, 1, 0), (4_096, 3, 4), (1, 1_024, 0), (2, 1_024, 3), (4_096, 64, 0)] {
+    let shapes = [(4_096, 1, 0), (4_096, 3, 4), (1, 1_024, 0), (2, 1_024, 3), (4_096, 64, 0)];
+    let too_large = [(4_097, 1, 3), (4_097, 2, 0), (1, 1_025, 4), (3, 1_025, 0), (4_098, 1, 4)];
+    for (count, dim, dtype) in shapes.into_iter().chain(too_large) {
         let ids = maps::ids(&mut rng, count);
         let block = payloads::block_of(&mut rng, &ids, dim, dtype);
         let mut draft = draft_of(vec![block]);
-        assert_eq!(same_check(&draft.bytes()), 0, "{count} vectors of dim {dim}");
+        let wanted = if count <= 4_096 && dim <= 1_024 { 0 } else { 5 };
+        assert_eq!(same_check(&draft.bytes()), wanted, "{count} vectors of dim {dim}");
         draft.blocks[0].count += 1;
         same_check(&draft.bytes());
         draft.blocks[0].count -= 1;

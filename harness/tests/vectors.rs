@@ -3,6 +3,8 @@
 //! the library has goes to the library too.
 
 use rvf_harness::calls::{Calls, Reference};
+#[cfg(feature = "linked")]
+use rvf_harness::ffi::Library;
 use rvf_harness::vectors::{self, Summary};
 use std::path::Path;
 
@@ -46,9 +48,12 @@ fn run_all(name: &str, text: &str) {
     }
     #[cfg(feature = "linked")]
     {
-        let library = run(name, text, &rvf_harness::ffi::Library, false);
-        for kind in ["idmap_read", "idmap_write"] {
-            assert_eq!(library.run[kind], reference.run[kind], "{name}: lines of {kind} were left out");
+        // Every line whose layer is linked must have run, and no other.
+        let library = run(name, text, &Library, false);
+        for kind in KINDS {
+            let linked = vectors::layer(kind).is_some_and(|layer| Library.has(layer));
+            let wanted = if linked { reference.run.get(kind) } else { None };
+            assert_eq!(library.run.get(kind), wanted, "{name}: lines of {kind} against the library");
         }
     }
 }

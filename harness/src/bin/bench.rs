@@ -32,8 +32,8 @@ pub enum Unit {
     Ns(usize),
 }
 
-/// Seconds a call takes, over as many calls as fill a round.
-fn seconds(call: &mut dyn FnMut(), calls: usize) -> f64 {
+/// Seconds a call takes, over that many calls.
+fn seconds(call: &mut impl FnMut(), calls: usize) -> f64 {
     let start = Instant::now();
     for _ in 0..calls {
         call();
@@ -44,8 +44,15 @@ fn seconds(call: &mut dyn FnMut(), calls: usize) -> f64 {
 /// Measures both sides in turn, round by round, so that a busy machine hurts both
 /// alike, and prints the line.
 pub fn line(name: &str, unit: Unit, mut ours: impl FnMut(), mut theirs: impl FnMut()) {
-    let once = seconds(&mut ours, 1).max(seconds(&mut theirs, 1)).max(1e-9);
-    let calls = (ROUND.as_secs_f64() / once).ceil().clamp(1.0, 10_000_000.0) as usize;
+    // As many calls a round as fill it, found by doubling: the first calls are cold.
+    let mut calls = 1;
+    while calls < 1 << 24 {
+        let slower = seconds(&mut ours, calls).max(seconds(&mut theirs, calls));
+        if slower * calls as f64 >= ROUND.as_secs_f64() / 2.0 {
+            break;
+        }
+        calls *= 2;
+    }
     let (mut best_ours, mut best_theirs) = (f64::MAX, f64::MAX);
     for _ in 0..ROUNDS {
         best_ours = best_ours.min(seconds(&mut ours, calls));

@@ -41,6 +41,19 @@ pub fn valid(ids: &[u64], encoding: u64, interval: u64) -> Vec<u8> {
     map
 }
 
+/// A map of any number of ids, also more than a block may have, and with any interval
+/// from 1 for delta (0 is raw).
+pub fn of_any_count(ids: &[u64], interval: u16) -> Vec<u8> {
+    if interval > 0 {
+        let parts: Vec<Vec<u8>> = numbers(ids, interval as usize).into_iter().map(varint_bytes).collect();
+        return assemble(ids.len() as u32, interval, &parts);
+    }
+    let mut map = vec![0; 3];
+    map.extend_from_slice(&(ids.len() as u32).to_le_bytes());
+    map.extend(ids.iter().flat_map(|id| id.to_le_bytes()));
+    map
+}
+
 /// A delta map from parts: one byte string an id, restart offsets as they fall.
 fn assemble(count: u32, interval: u16, numbers: &[Vec<u8>]) -> Vec<u8> {
     let mut map = vec![1];
@@ -209,8 +222,8 @@ mod tests {
             let count = count(&mut rng);
             let ids = ids(&mut rng, count);
             let interval = rng.range(1, 70);
-            let parts: Vec<Vec<u8>> = numbers(&ids, interval).into_iter().map(varint_bytes).collect();
-            assert_eq!(assemble(count as u32, interval as u16, &parts), valid(&ids, 1, interval as u64));
+            assert_eq!(of_any_count(&ids, interval as u16), valid(&ids, 1, interval as u64));
+            assert_eq!(of_any_count(&ids, 0), valid(&ids, 0, 0));
         }
     }
 

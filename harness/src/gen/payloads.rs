@@ -72,10 +72,10 @@ impl Draft {
     }
 }
 
-/// A valid block with the given ids.
+/// A block with the given ids, valid where count and dim keep their bounds.
 pub fn block_of(rng: &mut Rng, ids: &[u64], dim: usize, dtype: u8) -> DraftBlock {
     let width = vecseg::width(dtype).expect("a dtype that is held");
-    let (encoding, interval) = if rng.once_in(3) { (0, 0) } else { (1, rng.pick(&maps::intervals(ids.len()))) };
+    let interval = if rng.once_in(3) { 0 } else { rng.pick(&maps::intervals(ids.len())).clamp(1, 65_535) };
     DraftBlock {
         shift: 0,
         count: ids.len() as u32,
@@ -83,7 +83,7 @@ pub fn block_of(rng: &mut Rng, ids: &[u64], dim: usize, dtype: u8) -> DraftBlock
         dtype,
         tier: rng.next() as u8,
         columns: rng.bytes(ids.len() * dim * width),
-        map: maps::valid(ids, encoding, interval.min(65_535)),
+        map: maps::of_any_count(ids, interval as u16),
         crc_flip: 0,
         padding: None,
     }

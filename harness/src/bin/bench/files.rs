@@ -33,46 +33,63 @@ fn their_open(file: &[u8], out: &mut [u64; 5]) -> u32 {
     Reference.open(file, out)
 }
 
-/// Opening, and the same with the reference's walk from byte 0 as theirs.
-fn open_line(name: &str, file: &[u8], number: u32, per_mib: bool) {
-    // Nanoseconds a call, or a MiB of the file where that is wanted.
-    let unit = Unit::Ns(if per_mib { file.len() >> 20 } else { 1 });
-    let ours = || {
-        let mut out = [0; 5];
-        assert_eq!(Library.open(black_box(file), &mut out), number);
-        black_box(out);
-    };
-    crate::line(name, unit, ours, || {
-        let mut out = [0; 5];
-        assert_eq!(their_open(black_box(file), &mut out), number);
-        black_box(out);
-    });
-    crate::line(&format!("{name}_by_walk"), unit, ours, || {
-        assert_eq!(black_box(manifest::open_by_walk(black_box(file))).err().unwrap_or(0), number);
-    });
+/// Opening; in nanoseconds a call, or a MiB of the file where `mib` is above 1.
+fn open_line(name: &str, file: &[u8], number: u32, mib: usize) {
+    crate::line(
+        name,
+        Unit::Ns(mib),
+        || {
+            let mut out = [0; 5];
+            assert_eq!(Library.open(black_box(file), &mut out), number);
+            black_box(out);
+        },
+        || {
+            let mut out = [0; 5];
+            assert_eq!(their_open(black_box(file), &mut out), number);
+            black_box(out);
+        },
+    );
+}
+
+/// Opening against the reference's walk from byte 0, which looks at no boundary that
+/// is no link: what the search from the end costs on top of it.
+fn walk_line(name: &str, file: &[u8]) {
+    crate::line(
+        name,
+        Unit::Ns(1),
+        || {
+            let mut out = [0; 5];
+            assert_eq!(Library.open(black_box(file), &mut out), 0);
+            black_box(out);
+        },
+        || assert!(black_box(manifest::open_by_walk(black_box(file))).is_ok()),
+    );
 }
 
 fn opening() {
     let clean = thousand(limits::FILE);
-    open_line("open_16MiB_clean", &clean, 0, false);
+    open_line("open_16MiB_clean", &clean, 0, 1);
+    walk_line("open_16MiB_clean_against_walk", &clean);
     let mut torn = thousand(limits::FILE - (1 << 20));
     let noise = Rng::new(6).bytes(limits::FILE - torn.len());
     torn.extend_from_slice(&noise);
-    open_line("open_16MiB_torn_1MiB", &torn, 0, false);
+    open_line("open_16MiB_torn_1MiB", &torn, 0, 1);
+    walk_line("open_16MiB_torn_1MiB_against_walk", &torn);
 
-    // Candidates at every boundary behind a small file that has 1,000 entries.
+    // Candidates behind a small file that has 1,000 entries. Linear work shows as the
+    // same time a MiB for both lengths.
     let small = thousand(1 << 20);
     for (name, count, formed) in [("every", 0, false), ("formed_0", 0, true), ("formed_1000", 1_000, true)] {
         for mib in [4, 16] {
             let mut file = small.clone();
             let boundaries = ((mib << 20) - file.len()) / 64;
             file.extend(candidates(file.len(), boundaries, count, formed));
-            open_line(&format!("open_hostile_{name}_{mib}MiB_per_MiB"), &file, 0, true);
+            open_line(&format!("open_hostile_{name}_{mib}MiB_per_MiB"), &file, 0, mib);
         }
     }
     // No manifest at all: the whole file is searched.
     let none = candidates(0, limits::FILE / 64, 0, false);
-    open_line("open_hostile_none_16MiB_per_MiB", &none, 2, true);
+    open_line("open_hostile_none_16MiB_per_MiB", &none, 2, 16);
 }
 
 /// Vectors by id: 64 segments of 64 KiB with 255 vectors of 64 f32 each, found in the
