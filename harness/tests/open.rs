@@ -98,6 +98,29 @@ fn every_field_wrong_under_right_checksums() {
     }
 }
 
+/// Every type, every flag bit and some timestamps in a header that a right manifest
+/// copies: the chain stops at those that are not allowed.
+#[test]
+fn every_type_and_flag() {
+    let with = |kind: u8, flags: u16, manifest_flags: u16, time: u64| {
+        let mut file = Builder::new(0, 0);
+        file.manifest(0, 0, &[]);
+        file.body(kind, flags, time, b"body");
+        file.manifest(manifest_flags, time, &[]);
+        assert_eq!(same(&file.bytes), 0, "the first manifest opens");
+        runner::open(&Library, &file.bytes).out[3]
+    };
+    for kind in 0..=255u8 {
+        let allowed = matches!(kind, 0x01..=0x0C | 0xF0..=0xFF);
+        assert_eq!(with(kind, 0, 0, 1), if allowed { 2 } else { 0 }, "type {kind}");
+    }
+    for bit in 0..16 {
+        let allowed = 0x03C8 >> bit & 1 == 1;
+        assert_eq!(with(7, 1 << bit, 0, u64::MAX), if allowed { 2 } else { 0 }, "flag bit {bit}");
+        assert_eq!(with(7, 0x03C8, 1 << bit, 1 << 63), if allowed { 2 } else { 0 }, "the manifest's flag bit {bit}");
+    }
+}
+
 /// A file cut at every length, as it is and with a tail of noise.
 #[test]
 fn torn_everywhere() {
