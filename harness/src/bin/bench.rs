@@ -18,10 +18,11 @@ use rvf_harness::gen::{maps, Rng};
 use std::hint::black_box;
 use std::time::{Duration, Instant};
 
-/// Rounds of each side; the best one counts.
-const ROUNDS: usize = 15;
+/// Rounds of each side; the best one counts. Many short ones rather than few long
+/// ones: on a shared machine some of them then fall into a quiet moment.
+const ROUNDS: usize = 64;
 /// About how long a round takes.
-const ROUND: Duration = Duration::from_millis(12);
+const ROUND: Duration = Duration::from_millis(3);
 
 /// The unit of a line, with what one call of the measured closure amounts to.
 #[derive(Clone, Copy)]
@@ -71,10 +72,8 @@ pub fn line(name: &str, unit: Unit, mut ours: impl FnMut(), mut theirs: impl FnM
 pub mod theirs {
     use rvf_harness::calls::{Calls, Reference};
 
-    #[inline(never)]
-    pub fn crc32c(data: &[u8]) -> u32 {
-        Reference.crc32c(data)
-    }
+    /// No wrapper: this function is not inlined across crates as it is.
+    pub use rvf_harness::reference::crc::crc32c;
 
     #[inline(never)]
     pub fn varint_read(data: &[u8], out: &mut [u64; 2]) -> u32 {
@@ -114,18 +113,21 @@ fn checksums() {
     }
 }
 
-/// Varints of mixed lengths, as differences and ids give them: most have one or two
-/// bytes, some are long.
+/// Varints one after the other: of mixed lengths, where a wrong guess of the next
+/// length costs most, and of one byte each, where the work itself shows.
 fn varints() {
     let mut rng = Rng::new(2);
-    let values: Vec<u64> = (0..4_096)
-        .map(|_| {
-            let bits = rng.pick(&[5, 6, 7, 7, 7, 10, 13, 20, 40, 64]);
-            rng.next() >> (64 - bits)
-        })
-        .collect();
+    let bits = [5, 6, 7, 7, 7, 10, 13, 20, 40, 64];
+    let mixed: Vec<u64> = (0..4_096).map(|_| rng.next() >> (64 - rng.pick(&bits))).collect();
+    varints_of("", &mixed);
+    let short: Vec<u64> = (0..4_096).map(|_| rng.next() >> 57).collect();
+    varints_of("_of_one_byte", &short);
+}
+
+fn varints_of(name: &str, values: &[u64]) {
     let bytes: Vec<u8> = values.iter().flat_map(|&value| maps::varint_bytes(value)).collect();
 
+    #[inline(always)]
     fn read_all(bytes: &[u8], read: impl Fn(&[u8], &mut [u64; 2]) -> u32) -> u64 {
         let (mut at, mut sum, mut out) = (0, 0u64, [0; 2]);
         while at < bytes.len() {
@@ -136,7 +138,7 @@ fn varints() {
         sum
     }
     line(
-        "varint_read",
+        &format!("varint_read{name}"),
         Unit::Ns(values.len()),
         || {
             black_box(read_all(black_box(&bytes), |data, out| Library.varint_read(data, out)));
@@ -146,6 +148,7 @@ fn varints() {
         },
     );
 
+    #[inline(always)]
     fn write_all(buffer: &mut [u8], values: &[u64], write: impl Fn(&mut [u8], u64, &mut [u64; 1]) -> u32) {
         let (mut at, mut out) = (0, [0; 1]);
         for &value in values {
@@ -155,51 +158,62 @@ fn varints() {
     }
     let (mut buffer_a, mut buffer_b) = (vec![0; bytes.len()], vec![0; bytes.len()]);
     line(
-        "varint_write",
+        &format!("varint_write{name}"),
         Unit::Ns(values.len()),
         || {
-            write_all(black_box(&mut buffer_a), black_box(&values), |buffer, value, out| {
+            write_all(black_box(&mut buffer_a), black_box(values), |buffer, value, out| {
                 Library.varint_write(buffer, value, out)
             })
         },
-        || write_all(black_box(&mut buffer_b), black_box(&values), theirs::varint_write),
+        || write_all(black_box(&mut buffer_b), black_box(values), theirs::varint_write),
     );
 }
 
+/// Maps of 4,096 ids with the default interval: differences of one and two bytes in
+/// no order, or all of one byte ("dense"), and raw ids.
 fn id_maps() {
-    // Differences up to 255 with the default interval: one and two bytes.
-    let ids = Rng::new(3).rising(4_096, 1_000_000, 8);
-    let (mut room_a, mut room_b) = (vec![0; 4_096], vec![0; 4_096]);
-    for (name, encoding) in [("delta", 1), ("raw", 0)] {
-        let map = maps::valid(&ids, encoding, 0);
-        line(
-            &format!("idmap_read_4096_{name}"),
-            Unit::Ns(1),
-            || {
-                let mut out = [0];
-                assert_eq!(Library.idmap_read(black_box(&map), 4_096, black_box(&mut room_a), &mut out), 0);
-                black_box(out);
-            },
-            || {
-                let mut out = [0];
-                assert_eq!(theirs::idmap_read(black_box(&map), 4_096, black_box(&mut room_b), &mut out), 0);
-                black_box(out);
-            },
-        );
+    let mixed = Rng::new(3).rising(4_096, 1_000_000, 8);
+    let dense = Rng::new(3).rising(4_096, 1_000_000, 6);
+    for (name, ids, encoding) in [("delta", &mixed, 1), ("delta_dense", &dense, 1), ("raw", &mixed, 0)] {
+        read_map(&format!("idmap_read_4096_{name}"), &maps::valid(ids, encoding, 0));
     }
-    let length = maps::valid(&ids, 1, 0).len();
-    let (mut buffer_a, mut buffer_b) = (vec![0; length], vec![0; length]);
+    for (name, ids) in [("delta", &mixed), ("delta_dense", &dense)] {
+        write_map(&format!("idmap_write_4096_{name}"), ids);
+    }
+}
+
+fn read_map(name: &str, map: &[u8]) {
+    let (mut room_a, mut room_b) = (vec![0; 4_096], vec![0; 4_096]);
     line(
-        "idmap_write_4096_delta",
+        name,
         Unit::Ns(1),
         || {
             let mut out = [0];
-            assert_eq!(Library.idmap_write(black_box(&mut buffer_a), black_box(&ids), 1, 0, &mut out), 0);
+            assert_eq!(Library.idmap_read(black_box(map), 4_096, black_box(&mut room_a), &mut out), 0);
             black_box(out);
         },
         || {
             let mut out = [0];
-            assert_eq!(theirs::idmap_write(black_box(&mut buffer_b), black_box(&ids), 1, 0, &mut out), 0);
+            assert_eq!(theirs::idmap_read(black_box(map), 4_096, black_box(&mut room_b), &mut out), 0);
+            black_box(out);
+        },
+    );
+}
+
+fn write_map(name: &str, ids: &[u64]) {
+    let length = maps::valid(ids, 1, 0).len();
+    let (mut buffer_a, mut buffer_b) = (vec![0; length], vec![0; length]);
+    line(
+        name,
+        Unit::Ns(1),
+        || {
+            let mut out = [0];
+            assert_eq!(Library.idmap_write(black_box(&mut buffer_a), black_box(ids), 1, 0, &mut out), 0);
+            black_box(out);
+        },
+        || {
+            let mut out = [0];
+            assert_eq!(theirs::idmap_write(black_box(&mut buffer_b), black_box(ids), 1, 0, &mut out), 0);
             black_box(out);
         },
     );

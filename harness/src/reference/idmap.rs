@@ -101,17 +101,15 @@ fn decode_delta(data: &[u8], count: usize, interval: usize, mut each: impl FnMut
             return Err(LAYOUT);
         }
         // The group's first id is absolute and still above the one before it.
-        let (id, length) = varint::read(&encoded[at..])?;
+        let id = varint::read_next(encoded, &mut at)?;
         if group > 0 && id <= before {
             return Err(LAYOUT);
         }
-        at += length;
         before = id;
         each(id);
         let members = left.min(interval);
         for _ in 1..members {
-            let (difference, length) = varint::read(&encoded[at..])?;
-            at += length;
+            let difference = varint::read_next(encoded, &mut at)?;
             match before.checked_add(difference) {
                 Some(id) if difference > 0 => before = id,
                 _ => return Err(LAYOUT),
@@ -162,8 +160,7 @@ pub fn find(map: &[u8], count: usize, wanted: u64) -> Option<usize> {
     let mut id = 0;
     let first = group * interval;
     for index in first..count.min(first + interval) {
-        let (number, length) = varint::read(&encoded[at..]).ok()?;
-        at += length;
+        let number = varint::read_next(encoded, &mut at).ok()?;
         id = if index == first { number } else { id + number };
         if id >= wanted {
             return (id == wanted).then_some(index);

@@ -18,9 +18,33 @@ pub fn read(data: &[u8]) -> Result<(u64, usize), u32> {
     }
 }
 
+/// Reads the varint at `at` and moves `at` behind it; `at` may be the end.
+#[inline(always)]
+pub fn read_next(data: &[u8], at: &mut usize) -> Result<u64, u32> {
+    match data.get(*at) {
+        None => Err(LAYOUT),
+        Some(&byte) if byte < 0x80 => {
+            *at += 1;
+            Ok(byte as u64)
+        }
+        Some(_) => {
+            let (value, length) = read_longer(&data[*at..])?;
+            *at += length;
+            Ok(value)
+        }
+    }
+}
+
 /// The varint at the front, whose first byte has its top bit set.
+#[inline]
 fn read_longer(data: &[u8]) -> Result<(u64, usize), u32> {
     let mut value = (data[0] & 0x7F) as u64;
+    // Two bytes are common too.
+    match data.get(1) {
+        None | Some(0) => return Err(LAYOUT),
+        Some(&second) if second < 0x80 => return Ok((value | (second as u64) << 7, 2)),
+        Some(_) => (),
+    }
     for (at, &byte) in data.iter().enumerate().take(MAX_LENGTH).skip(1) {
         // The tenth byte holds bit 63 alone.
         if at == MAX_LENGTH - 1 && byte > 1 {
