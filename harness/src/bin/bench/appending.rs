@@ -1,0 +1,62 @@
+//! The lines for appending: a batch of 1 MiB to files of 1, 4 and 15 MiB whose
+//! manifests have 1,000 entries.
+
+use crate::files::thousand;
+use crate::{line, Unit};
+use rvf_harness::calls::{Calls, Reference};
+use rvf_harness::ffi::Library;
+use rvf_harness::gen::{batch_of, Rng};
+use rvf_harness::reference::limits;
+use std::hint::black_box;
+
+#[inline(never)]
+fn their_append(buffer: &mut [u8], n: u64, batch: &[u8], out: &mut [u64; 3]) -> u32 {
+    Reference.append(buffer, n, batch, &[], 1, out)
+}
+
+pub fn lines() {
+    let mut rng = Rng::new(9);
+    // One body, and the manifest behind it: together nearly the longest batch.
+    let body = rng.bytes(limits::BATCH_MAX - 32);
+    let batch = batch_of(&[(7, 0, &body)]);
+    for mib in [1, 4, 15] {
+        // The largest file leaves room for the batch and the new manifest.
+        let length = if mib == 15 { (15 << 20) - 65_536 } else { mib << 20 };
+        let file = thousand(length);
+        let n = file.len() as u64;
+        let mut buffer_a = file.clone();
+        buffer_a.resize(limits::FILE, 0);
+        let mut buffer_b = buffer_a.clone();
+        // The file is the first n bytes each time, so every call appends the same.
+        line(
+            &format!("append_1MiB_to_{mib}MiB"),
+            Unit::Bytes(batch.len()),
+            || {
+                let mut out = [0; 3];
+                assert_eq!(Library.append(black_box(&mut buffer_a), n, black_box(&batch), &[], 1, &mut out), 0);
+                black_box(out);
+            },
+            || {
+                let mut out = [0; 3];
+                assert_eq!(their_append(black_box(&mut buffer_b), n, black_box(&batch), &mut out), 0);
+                black_box(out);
+            },
+        );
+        // An empty batch: opening and the new manifest alone.
+        let empty = batch_of(&[]);
+        line(
+            &format!("append_empty_to_{mib}MiB"),
+            Unit::Ns(1),
+            || {
+                let mut out = [0; 3];
+                assert_eq!(Library.append(black_box(&mut buffer_a), n, black_box(&empty), &[], 1, &mut out), 0);
+                black_box(out);
+            },
+            || {
+                let mut out = [0; 3];
+                assert_eq!(their_append(black_box(&mut buffer_b), n, black_box(&empty), &mut out), 0);
+                black_box(out);
+            },
+        );
+    }
+}

@@ -1,0 +1,319 @@
+//! Whole files for the comparisons. A builder puts segments and manifests one behind
+//! the other; a fault can be put into a manifest before its checksums are made, so
+//! that it stands alone and only the rule it breaks can notice it.
+
+use super::{payloads, Rng};
+use crate::reference::manifest::{ENTRY, RECORD_HEAD, RETIRED, ROOT};
+use crate::reference::segment::{self, HEADER, MANIFEST, VEC};
+use crate::reference::{crc, round64};
+
+/// A byte of a manifest that a fault changes, before the checksums behind it are made.
+#[derive(Clone, Copy, Debug)]
+pub enum Place {
+    /// A byte of the record's head, of an entry (index, byte), of the fill, of the root.
+    Record(usize),
+    Entry(usize, usize),
+    Fill(usize),
+    Root(usize),
+    /// A byte of the root's checksum or of the header's content hash, made wrong.
+    RootCrc(usize),
+    Hash(usize),
+}
+
+/// A change of one byte: the bits that are flipped.
+pub type Fault = (Place, u8);
+
+/// A file that grows by segments. `base` is where its first byte will lie in the file
+/// that is opened: above 0 for a file inside a body.
+#[derive(Clone)]
+pub struct Builder {
+    pub bytes: Vec<u8>,
+    pub base: usize,
+    /// Offsets of the segments so far, from this file's first byte, with their states.
+    pub links: Vec<(usize, u8)>,
+    pub next_id: u64,
+}
+
+impl Builder {
+    pub fn new(base: usize, first_id: u64) -> Builder {
+        Builder { bytes: Vec::new(), base, links: Vec::new(), next_id: first_id }
+    }
+
+    /// A segment with a right hash. Returns its offset.
+    pub fn body(&mut self, kind: u8, flags: u16, time: u64, payload: &[u8]) -> usize {
+        let at = self.bytes.len();
+        self.bytes.resize(at + HEADER + round64(payload.len()), 0);
+        self.bytes[at + HEADER..][..payload.len()].copy_from_slice(payload);
+        segment::seal(&mut self.bytes[at..], kind, flags, self.next_id, payload.len(), time);
+        self.links.push((at, 0));
+        self.next_id = self.next_id.wrapping_add(1);
+        at
+    }
+
+    /// A manifest of all links so far, with faults. Returns its offset.
+    pub fn manifest(&mut self, flags: u16, time: u64, faults: &[Fault]) -> usize {
+        let links = self.links.clone();
+        self.manifest_of(&links, flags, time, faults)
+    }
+
+    /// A manifest whose entries are those of the given links.
+    pub fn manifest_of(&mut self, links: &[(usize, u8)], flags: u16, time: u64, faults: &[Fault]) -> usize {
+        let at = self.bytes.len();
+        let contents = round64(RECORD_HEAD + ENTRY * links.len());
+        let length = contents + ROOT;
+        let mut payload = vec![0; length];
+        payload[0] = 1;
+        payload[2..6].copy_from_slice(&((ENTRY * links.len()) as u32).to_le_bytes());
+        for (index, (offset, state)) in links.iter().enumerate() {
+            let header = &self.bytes[*offset..*offset + HEADER];
+            let entry = &mut payload[RECORD_HEAD + ENTRY * index..][..ENTRY];
+            entry[..8].copy_from_slice(&((self.base + offset) as u64).to_le_bytes());
+            entry[8..24].copy_from_slice(&header[8..24]);
+            entry[24..40].copy_from_slice(&header[40..56]);
+            entry[40] = header[5];
+            entry[41] = *state;
+            entry[42..44].copy_from_slice(&header[6..8]);
+        }
+        let root = contents;
+        payload[root..root + 4].copy_from_slice(b"RVM0");
+        payload[root + 4] = 1;
+        payload[root + 6..][..2].copy_from_slice(&(links.len() as u16).to_le_bytes());
+        let end = self.base + at + HEADER + length;
+        let numbers = [(8, self.base + at), (24, RECORD_HEAD + ENTRY * links.len()), (32, end)];
+        for (place, number) in numbers {
+            payload[root + place..][..8].copy_from_slice(&(number as u64).to_le_bytes());
+        }
+        payload[root + 16..][..8].copy_from_slice(&self.next_id.to_le_bytes());
+        let used = RECORD_HEAD + ENTRY * links.len();
+        for (place, bits) in faults {
+            match *place {
+                Place::Record(byte) => payload[byte] ^= bits,
+                Place::Entry(index, byte) if !links.is_empty() => {
+                    payload[RECORD_HEAD + ENTRY * (index % links.len()) + byte] ^= bits
+                }
+                Place::Fill(byte) if used < contents => payload[used + byte % (contents - used)] ^= bits,
+                Place::Root(byte) => payload[root + byte] ^= bits,
+                _ => (),
+            }
+        }
+        let crc = crc::crc32c(&payload[root..length - 4]);
+        payload[length - 4..].copy_from_slice(&crc.to_le_bytes());
+        for (place, bits) in faults {
+            if let Place::RootCrc(byte) = *place {
+                payload[length - 4 + byte % 4] ^= bits;
+            }
+        }
+        self.body(MANIFEST, flags, time, &payload);
+        for (place, bits) in faults {
+            if let Place::Hash(byte) = *place {
+                self.bytes[at + 40 + byte % 16] ^= bits;
+            }
+        }
+        at
+    }
+
+    /// Retires a random link that may be, for the manifests to come.
+    pub fn retire(&mut self, rng: &mut Rng) {
+        if !self.links.is_empty() {
+            let index = rng.below(self.links.len());
+            if self.bytes[self.links[index].0 + 5] != MANIFEST {
+                self.links[index].1 = RETIRED;
+            }
+        }
+    }
+}
+
+/// A fault anywhere in a manifest; fields are hit more often than long runs of zeros.
+pub fn fault(rng: &mut Rng) -> Fault {
+    let bits = rng.pick(&[1, 1, 2, 0x80, 0xFF]);
+    let place = match rng.below(8) {
+        0 => Place::Record(rng.below(8)),
+        1 | 2 => Place::Entry(rng.below(64), rng.below(ENTRY)),
+        3 => Place::Fill(rng.below(64)),
+        4 => Place::Root(rng.below(40)),
+        5 => Place::Root(rng.range(40, ROOT - 5)),
+        6 => Place::RootCrc(rng.below(4)),
+        _ => Place::Hash(rng.below(16)),
+    };
+    (place, bits)
+}
+
+pub fn kind(rng: &mut Rng) -> u8 {
+    rng.pick(&[1, 1, 1, 2, 3, 4, 6, 7, 7, 8, 9, 10, 11, 12, 0xF0, 0xF7, 0xFF])
+}
+
+pub fn flags(rng: &mut Rng) -> u16 {
+    rng.next() as u16 & segment::FLAGS
+}
+
+fn first_id(rng: &mut Rng) -> u64 {
+    match rng.below(6) {
+        0 => u64::MAX - rng.below(12) as u64,
+        1 => rng.value(),
+        2 => 1 << 32,
+        _ => rng.below(3) as u64,
+    }
+}
+
+/// Bytes of a body that lies at `at`: noise, vectors, a small file of its own whose
+/// manifests name true places, or a lone piece of one.
+fn body(rng: &mut Rng, at: usize, kind: u8, depth: usize) -> Vec<u8> {
+    if kind == VEC && !rng.once_in(4) {
+        return payloads::draft(rng, true).bytes();
+    }
+    if depth == 0 && rng.once_in(6) {
+        // Aligned as it comes; now and then moved by some bytes in front.
+        let mut bytes = vec![0; if rng.once_in(3) { rng.range(1, 63) } else { 0 }];
+        let first = first_id(rng);
+        let inner = builder(rng, at + HEADER + bytes.len(), first, 1).bytes;
+        bytes.extend_from_slice(&inner);
+        return bytes;
+    }
+    let length = rng.pick(&[0, 1, 10, 63, 64, 65, 100, 128, 200]);
+    rng.bytes(length)
+}
+
+/// A file of a few batches, its manifests mostly right.
+pub fn builder(rng: &mut Rng, base: usize, first_id: u64, depth: usize) -> Builder {
+    let mut file = Builder::new(base, first_id);
+    let batches = if depth == 0 { rng.range(1, 3) } else { 1 };
+    for _ in 0..batches {
+        for _ in 0..rng.pick(&[0, 1, 1, 2, 3]) {
+            let kind = kind(rng);
+            let at = file.base + file.bytes.len();
+            let payload = body(rng, at, kind, depth);
+            let flags = flags(rng);
+            let offset = file.body(kind, flags, rng.next(), &payload);
+            if rng.once_in(12) {
+                // A link that is not whole: the hash is wrong, the header still sound.
+                file.bytes[offset + 40 + rng.below(16)] ^= 1;
+            }
+            if rng.once_in(10) {
+                file.next_id = file.next_id.wrapping_add(rng.pick(&[1, 5, 1 << 33, u64::MAX, 0]));
+            }
+        }
+        if rng.once_in(3) {
+            file.retire(rng);
+        }
+        let flags = if rng.once_in(4) { flags(rng) } else { 0 };
+        let time = rng.next();
+        let mut links = file.links.clone();
+        match rng.below(24) {
+            0 => drop(links.pop()),
+            1 if !links.is_empty() => drop(links.remove(0)),
+            2 if !links.is_empty() => links.push(links[0]),
+            3 if links.len() > 1 => links.swap(0, 1),
+            4 => links.clear(),
+            _ => (),
+        }
+        let faults: Vec<Fault> = (0..rng.pick(&[0, 0, 0, 0, 1, 2])).map(|_| fault(rng)).collect();
+        file.manifest_of(&links, flags, time, &faults);
+    }
+    file
+}
+
+/// A change somewhere in a built file, most likely where a rule looks.
+pub fn spoil(rng: &mut Rng, file: &Builder, bytes: &mut Vec<u8>) {
+    if file.links.is_empty() || bytes.is_empty() {
+        return;
+    }
+    let index = rng.below(file.links.len());
+    let offset = file.links[index].0;
+    let next = file.links.get(index + 1).map_or(bytes.len(), |link| link.0);
+    let bits = rng.pick(&[1, 2, 0x10, 0x80, 0xFF]);
+    let at = match rng.below(8) {
+        // A header, byte by byte; its length field; the padding; the whole segment.
+        0 | 1 => offset + rng.below(HEADER),
+        2 => offset + 16 + rng.below(3),
+        3 => next.saturating_sub(rng.range(1, 64)),
+        4 => offset + rng.below(next.saturating_sub(offset).max(1)),
+        5 => next.saturating_sub(rng.range(1, ROOT)),
+        6 => offset + HEADER + rng.below(RECORD_HEAD + 2 * ENTRY),
+        _ => {
+            let inside = offset + rng.below(HEADER + 1);
+            let cut = rng.pick(&[offset, inside, next.saturating_sub(1), next.saturating_sub(64)]);
+            bytes.truncate(cut);
+            return;
+        }
+    };
+    if let Some(byte) = bytes.get_mut(at) {
+        *byte ^= bits;
+    }
+}
+
+/// What may stand behind a file: nothing, noise, zeros, the torn front of more.
+pub fn tail(rng: &mut Rng, file: &mut Builder) -> Vec<u8> {
+    match rng.below(8) {
+        0 => vec![0; rng.pick(&[1, 63, 64, 65, 200])],
+        1 => {
+            let length = rng.range(1, 300);
+            rng.bytes(length)
+        }
+        2..=4 => {
+            let from = file.bytes.len();
+            let mut more = file.clone();
+            let payload = rng.bytes(70);
+            more.body(7, 8, 5, &payload);
+            let faults: Vec<Fault> = (0..rng.below(2)).map(|_| fault(rng)).collect();
+            more.manifest(0, 5, &faults);
+            let torn = &more.bytes[from..];
+            torn[..rng.below(torn.len() + 1)].to_vec()
+        }
+        _ => Vec::new(),
+    }
+}
+
+/// A file to open: some right, most with a fault or a tail of some kind.
+pub fn file(rng: &mut Rng) -> Vec<u8> {
+    let first = first_id(rng);
+    let mut built = builder(rng, 0, first, 0);
+    let mut bytes = built.bytes.clone();
+    bytes.extend(tail(rng, &mut built));
+    for _ in 0..rng.pick(&[0, 0, 1, 1, 2]) {
+        spoil(rng, &built, &mut bytes);
+    }
+    if rng.once_in(20) {
+        super::damage(rng, &mut bytes);
+    }
+    bytes
+}
+
+/// A hostile run of `boundaries` boundaries from `at` on: manifest headers, each with
+/// a root at the place its length gives that names this header, and none a link.
+///
+/// With `formed`, lengths are those of the manifest's form, so a root stands at a
+/// boundary too: runs of headers and of their roots take turns, half of the boundaries
+/// each. Otherwise every boundary is a header, and the front of another's root (magic,
+/// version, count, offset) hides in its sixteen hash bytes.
+pub fn candidates(at: usize, boundaries: usize, count: usize, formed: bool) -> Vec<u8> {
+    let contents = round64(RECORD_HEAD + ENTRY * count);
+    let run = 1 + contents / 64;
+    let length = if formed { contents + ROOT } else { contents + 40 + ROOT };
+    let mut bytes = vec![0; 64 * boundaries];
+    for index in 0..boundaries {
+        let p = at + 64 * index;
+        if formed && index / run % 2 == 1 {
+            continue;
+        }
+        let id = 1_000_000 + index as u64;
+        let header = &mut bytes[64 * index..][..HEADER];
+        header[..4].copy_from_slice(&segment::MAGIC);
+        header[4] = 1;
+        header[5] = MANIFEST;
+        header[8..16].copy_from_slice(&id.to_le_bytes());
+        header[16..24].copy_from_slice(&(length as u64).to_le_bytes());
+        let mut front = b"RVM0\x01\x00".to_vec();
+        front.extend_from_slice(&(count as u16).to_le_bytes());
+        front.extend_from_slice(&(p as u64).to_le_bytes());
+        if formed {
+            front.extend_from_slice(&id.to_le_bytes());
+            front.extend_from_slice(&((RECORD_HEAD + ENTRY * count) as u64).to_le_bytes());
+            front.extend_from_slice(&((p + HEADER + length) as u64).to_le_bytes());
+        }
+        let root = 64 * index + HEADER + length - ROOT;
+        if let Some(place) = bytes.get_mut(root..root + front.len()) {
+            place.copy_from_slice(&front);
+        }
+    }
+    bytes
+}

@@ -1,0 +1,94 @@
+//! Runs the vector files: the subset in the repository always, the whole set where it
+//! stands beside the checkout. Every line goes to the reference; every line whose call
+//! the library has goes to the library too.
+
+use rvf_harness::calls::{Calls, Reference};
+#[cfg(feature = "linked")]
+use rvf_harness::ffi::Library;
+use rvf_harness::vectors::{self, Summary};
+use std::path::Path;
+
+const KINDS: [&str; 11] = [
+    "append",
+    "component",
+    "entry",
+    "idmap_read",
+    "idmap_write",
+    "list",
+    "open",
+    "payload",
+    "vec_check",
+    "vec_write",
+    "vector",
+];
+
+fn read(path: &str) -> Option<String> {
+    let path = Path::new(env!("CARGO_MANIFEST_DIR")).join(path);
+    path.exists().then(|| std::fs::read_to_string(path).expect("a vector file is text"))
+}
+
+fn run(name: &str, text: &str, calls: &dyn Calls, lister: bool) -> Summary {
+    let summary = vectors::run(text, calls, lister);
+    println!("{name}, {}: {:?}, skipped {}", calls.name(), summary.run, summary.skipped);
+    assert!(
+        summary.differences.is_empty(),
+        "{name}, {}: {} differences\n{}",
+        calls.name(),
+        summary.differences.len(),
+        summary.differences[..summary.differences.len().min(20)].join("\n")
+    );
+    summary
+}
+
+fn run_all(name: &str, text: &str) {
+    let reference = run(name, text, &Reference, true);
+    assert_eq!(reference.skipped, 0);
+    for kind in KINDS {
+        assert!(reference.run.contains_key(kind), "{name} has no line of the kind {kind}");
+    }
+    #[cfg(feature = "linked")]
+    {
+        // Every line whose layer is linked must have run, and no other.
+        let library = run(name, text, &Library, false);
+        for kind in KINDS {
+            let linked = vectors::layer(kind).is_some_and(|layer| Library.has(layer));
+            let wanted = if linked { reference.run.get(kind) } else { None };
+            assert_eq!(library.run.get(kind), wanted, "{name}: lines of {kind} against the library");
+        }
+    }
+}
+
+#[test]
+fn subset_in_the_repository() {
+    run_all("subset", &read("vectors/subset.txt").expect("the subset is part of the repository"));
+}
+
+/// The subset shows every answer number that a line of its kind can have in the set.
+#[test]
+fn subset_has_every_kind_of_answer() {
+    let subset = read("vectors/subset.txt").expect("the subset is part of the repository");
+    let answers = |kind: &str| {
+        let prefix = format!("{kind} ");
+        let lines = subset.lines().filter(|line| line.starts_with(&prefix));
+        let numbers = lines.filter_map(|line| line.split(" = ").nth(1)?.split(' ').next()?.parse::<u32>().ok());
+        numbers.collect::<std::collections::BTreeSet<_>>().into_iter().collect::<Vec<_>>()
+    };
+    assert_eq!(answers("append"), [0, 2, 5, 6, 9, 10, 11]);
+    assert_eq!(answers("component"), [0, 2, 4, 5, 6, 7, 8]);
+    assert_eq!(answers("vector"), [0, 2, 4, 5, 6, 7, 8, 9]);
+    assert_eq!(answers("payload"), [0, 2, 3, 4]);
+    assert_eq!(answers("open"), [0, 2]);
+    assert_eq!(answers("entry"), [0]);
+    assert_eq!(answers("vec_check"), [0, 5, 6, 7]);
+    assert_eq!(answers("vec_write"), [0, 9, 14]);
+    assert_eq!(answers("idmap_read"), [0, 5, 9]);
+    assert_eq!(answers("idmap_write"), [0, 9, 14]);
+}
+
+#[test]
+fn whole_set_where_it_exists() {
+    match read("../../shared/vectors/01.txt") {
+        Some(text) => run_all("whole set", &text),
+        None => println!("no whole set beside this checkout"),
+    }
+}
