@@ -117,9 +117,20 @@ fn read_rest(s: &[u8], at: usize, first: u64) -> Varint
     Varint::Refused(5)
 }
 
-// The varint at the front of a slice; more bytes may follow.
+// The varint at the front of a slice; more bytes may follow. It goes the way of `read_at` itself: with two callers the loop of
+// `read_rest` stays a function of its own, and the short way of a one-byte varint is compiled into the loops that read many.
 pub fn read(s: &[u8]) -> Varint
     ensures { λ r. ⌜ r ≡ readVarint (now (s .entry)) ⌝ }
 {
-    read_at(s, 0)
+    if s.len() == 0 {
+        return Varint::Refused(5);
+    }
+    let b = wide(s[0]);
+    if b < 128 {
+        return Varint::Value {
+            value: b,
+            length: 1,
+        };
+    }
+    read_rest(s, 0, b - 128)
 }
