@@ -21,13 +21,13 @@ Ahead n x r = (m : ℕ) → bits poly (8 + m) r ≡ bits poly (n + (8 + m)) x
 unfoldable pub multiple : ℕ → ℕ
 multiple n = bits poly n 1 * 2 ^ 7
 
--- the multiples that are used: for n from 8 to 48 and from 200 to 256
+-- the multiples that are used: for n from 8 to 56 and from 200 to 256
 abbrev pub lengths : List ℕ
-lengths = 8 ∷ 16 ∷ 24 ∷ 32 ∷ 40 ∷ 48 ∷ 200 ∷ 208 ∷ 216 ∷ 224 ∷ 232 ∷ 240 ∷ 248 ∷ 256 ∷ []
+lengths = 8 ∷ 16 ∷ 24 ∷ 32 ∷ 40 ∷ 48 ∷ 56 ∷ 200 ∷ 208 ∷ 216 ∷ 224 ∷ 232 ∷ 240 ∷ 248 ∷ 256 ∷ []
 
 abbrev pub multiples : List ℕ
 multiples =
-    0x79_35C1_8180 ∷ 0x9_D14C_3B80 ∷ 0x52_A0C9_3F00 ∷ 0x6E_A2D5_5C00 ∷ 0x1C_08B7_D600 ∷ 0x77_9835_8C80 ∷
+    0x79_35C1_8180 ∷ 0x9_D14C_3B80 ∷ 0x52_A0C9_3F00 ∷ 0x6E_A2D5_5C00 ∷ 0x1C_08B7_D600 ∷ 0x77_9835_8C80 ∷ 0x34_0196_6400 ∷
     0x17_1A65_CE80 ∷ 0x16_D742_0780 ∷ 0x2F_1F49_5000 ∷ 0x51_0AC5_9A00 ∷ 0x7B_EDE5_9280 ∷ 0xA_DDA0_8480 ∷ 0x3C_53B0_4680 ∷ 0x1E_D368_6580 ∷ []
 
 multiples-hold : map multiple lengths ≡ multiples

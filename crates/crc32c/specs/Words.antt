@@ -94,6 +94,16 @@ pub crcFrom-word : (c : ℕ) (s : List ℕ) (i : ℕ) → Bytes s → i + 8 ≤ 
     → crcFrom c (drop i s) ≡ crcFrom (bits poly 64 (bitXor c (word s i))) (drop (i + 8) s)
 crcFrom-word c s i hs h = ap (λ (n : ℕ). crcFrom c (drop n s)) (sym (add-zero i)) ∙ crcFrom-le 8 c s i 0 hs h
 
+-- two bytes more
+pub crcFrom-pair : (c : ℕ) (s : List ℕ) (i : ℕ) → Bytes s → i + 2 ≤ length s
+    → crcFrom c (drop i s) ≡ crcFrom (bits poly 16 (bitXor c (getD s i 0 + 256 * getD s (i + 1) 0))) (drop (i + 2) s)
+unfolding le
+crcFrom-pair c s i hs h =
+    let e : getD s (i + 0) 0 + 256 * (getD s (i + 1) 0 + 256 * 0) ≡ getD s i 0 + 256 * getD s (i + 1) 0 = rw (add-zero i) (omega arith) in
+    ap (λ (n : ℕ). crcFrom c (drop n s)) (sym (add-zero i))
+    ∙ crcFrom-le 2 c s i 0 hs h
+    ∙ ap (λ (x : ℕ). crcFrom (bits poly 16 (bitXor c x)) (drop (i + 2) s)) e
+
 -- the register and the checksum have 32 bits
 pub crcFrom-lt : (c : ℕ) (s : List ℕ) → c < 2 ^ 32 → Bytes s → crcFrom c s < 2 ^ 32
 unfolding crcFrom byteStep

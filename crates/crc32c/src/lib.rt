@@ -57,7 +57,7 @@ fn far(x: u64) -> u64
     steps(0x1E_D368_6580, 8, x % 256).register ^ r1
 }
 
-// The register after eight bytes: six of them sixteen bits ahead of the end, and then the sixteen.
+// The register after eight bytes: seven of them taken on to the last one, and then its eight steps.
 fn near(x: u64) -> u64
     ensures { λ r. ⌜ r ≡ bits poly 64 x ⌝ }
 {
@@ -67,13 +67,15 @@ fn near(x: u64) -> u64
     let x4 = x3 / 256;
     let x5 = x4 / 256;
     let x6 = x5 / 256;
-    let r5 = steps(0x79_35C1_8180, 8, x5 % 256).register ^ x6;
-    let r4 = steps(0x9_D14C_3B80, 8, x4 % 256).register ^ r5;
-    let r3 = steps(0x52_A0C9_3F00, 8, x3 % 256).register ^ r4;
-    let r2 = steps(0x6E_A2D5_5C00, 8, x2 % 256).register ^ r3;
-    let r1 = steps(0x1C_08B7_D600, 8, x1 % 256).register ^ r2;
-    let r0 = steps(0x77_9835_8C80, 8, x % 256).register ^ r1;
-    steps(POLYNOMIAL, 16, r0).register
+    let x7 = x6 / 256;
+    let r6 = steps(0x79_35C1_8180, 8, x6 % 256).register ^ x7;
+    let r5 = steps(0x9_D14C_3B80, 8, x5 % 256).register ^ r6;
+    let r4 = steps(0x52_A0C9_3F00, 8, x4 % 256).register ^ r5;
+    let r3 = steps(0x6E_A2D5_5C00, 8, x3 % 256).register ^ r4;
+    let r2 = steps(0x1C_08B7_D600, 8, x2 % 256).register ^ r3;
+    let r1 = steps(0x77_9835_8C80, 8, x1 % 256).register ^ r2;
+    let r0 = steps(0x34_0196_6400, 8, x % 256).register ^ r1;
+    steps(POLYNOMIAL, 8, r0).register
 }
 
 fn wide(b: u8) -> u64
@@ -98,7 +100,7 @@ fn word_at(s: &[u8], at: usize) -> u64
     a + 256 * (b + 256 * (c + 256 * (d + 256 * (e + 256 * (f + 256 * (g + 256 * h))))))
 }
 
-// The register after all that stands in a slice from a place on: word by word, and the last bytes one by one.
+// The register after all that stands in a slice from a place on: word by word, the last bytes two by two, and the last one.
 fn rest(c: u64, s: &[u8], at: usize) -> u64
     requires { ⌜ at ≤ length (now s) ⌝ }
     ensures { λ r. ⌜ r ≡ crcFrom c (drop at (now (s .entry))) ⌝ }
@@ -108,6 +110,10 @@ fn rest(c: u64, s: &[u8], at: usize) -> u64
     while s.len() - i >= 8 {
         x = near(x ^ word_at(s, i));
         i += 8;
+    }
+    while s.len() - i >= 2 {
+        x = steps(POLYNOMIAL, 16, x ^ (wide(s[i]) + 256 * wide(s[i + 1]))).register;
+        i += 2;
     }
     while i < s.len() {
         x = steps(POLYNOMIAL, 8, x ^ wide(s[i])).register;

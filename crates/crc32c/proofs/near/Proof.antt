@@ -1,8 +1,8 @@
--- `crc32c::near` meets its contract: six bytes are taken on to the last two, and those two are sixteen steps.
+-- `crc32c::near` meets its contract: seven bytes are taken on to the last one, and that one is eight steps.
 -- Assumes nothing.
 use mathlib.Core.Path.{_∙_}
-use Rattle.crc32c.specs.Ahead.{multiple-at, ahead-none, ahead-more}
 use borrow.Author.Needs.{needs}
+use Rattle.crc32c.specs.Ahead.{multiple-at, ahead-none, ahead-more}
 use Rattle.crc32c.proofs.near.Statement.{statement}
 use Rattle.crc32c.proofs.near.Tie as tie
 
@@ -27,21 +27,26 @@ steps-requires-6 c κs = search needs
 steps-requires-7 : tie.Need-steps-requires-7
 steps-requires-7 c κs = search needs
 
+steps-requires-8 : tie.Need-steps-requires-8
+steps-requires-8 c κs = search needs
+
 returns : tie.Need-returns
 returns c =
-    let c6 = c .before .before in
+    let c7 = c .before .before in
+    let c6 = c7 .before .before in
     let c5 = c6 .before .before in
     let c4 = c5 .before .before in
     let c3 = c4 .before .before in
     let c2 = c3 .before .before in
     let c1 = c2 .before .before in
-    c .steps7 .ensures
-    ∙ ahead-more 40 _ (c1 .before .args .x) _ _ (multiple-at 5) (c6 .steps6 .ensures)
+    c .steps8 .ensures
+    ∙ ahead-more 48 _ (c1 .before .args .x) _ _ (multiple-at 6) (c7 .steps7 .ensures)
+    (ahead-more 40 _ _ _ _ (multiple-at 5) (c6 .steps6 .ensures)
     (ahead-more 32 _ _ _ _ (multiple-at 4) (c5 .steps5 .ensures)
     (ahead-more 24 _ _ _ _ (multiple-at 3) (c4 .steps4 .ensures)
     (ahead-more 16 _ _ _ _ (multiple-at 2) (c3 .steps3 .ensures)
-    (ahead-more 8 _ _ _ _ (multiple-at 1) (c2 .steps2 .ensures) (ahead-more 0 _ _ _ _ (multiple-at 0) (c1 .steps .ensures) (ahead-none _))))))
-    8
+    (ahead-more 8 _ _ _ _ (multiple-at 1) (c2 .steps2 .ensures) (ahead-more 0 _ _ _ _ (multiple-at 0) (c1 .steps .ensures) (ahead-none _)))))))
+    0
 
 pub near-spec : {M : Type 1} → statement M
 near-spec =
@@ -54,4 +59,5 @@ near-spec =
     steps-requires-5
     steps-requires-6
     steps-requires-7
+    steps-requires-8
     returns)
