@@ -1,6 +1,6 @@
 // CRC32C of a slice, in four lanes of eight bytes.
 // No table stands here. Eight steps with a polynomial that is known are a loop that the compiler replaces by a look-up in a table of
-// 256 numbers, which it lays down once among the program's constants; a constant array of the source would be copied at each call.
+// 256 numbers, which it lays down once among the program's constants. A constant array of the source would be copied at each call.
 ghost use mathlib.Core.Path.{_≡_};
 ghost use Prim.Native.Nat.{_+_, _<_, _≤_};
 ghost use lib.ListN.{length, drop};
@@ -16,8 +16,9 @@ struct Stepped {
     added: u64,
 }
 
-// The register after k steps with a polynomial. No caller reads `added`. It is handed back because the compiler knows the loop again as
-// one for a table only where the choice between the two registers is left as it is written, and it is where both have a use.
+// The register after k steps with a polynomial. Two things are here only so that the compiler still knows the loop as one for a table where
+// it learns the polynomial, which is at the call. `added`, which no caller reads, keeps the choice between the two registers as it is written;
+// and k, which is 8 at most calls and 16 at one, keeps the loop from being unrolled before.
 fn steps(p: u64, k: usize, x: u64) -> Stepped
     ensures { λ r. ⌜ r .register ≡ bits p k x ⌝ }
 {
@@ -36,7 +37,8 @@ fn steps(p: u64, k: usize, x: u64) -> Stepped
     Stepped { register, added }
 }
 
-// What stands for eight bytes thirty-two bytes on. Each byte is multiplied, and the products are added; they reach eight bits above the register.
+// What stands for eight bytes thirty-two bytes on: each byte times the factor for its place, and the sum of the products.
+// They are not reduced, so the sum has up to 39 bits. The next word takes them in.
 fn far(x: u64) -> u64
     ensures { λ r. ⌜ Ahead 256 x r ⌝ }
 {
@@ -57,7 +59,7 @@ fn far(x: u64) -> u64
     steps(0x1E_D368_6580, 8, x % 256).register ^ r1
 }
 
-// The register after eight bytes: seven of them taken on to the last one, and then its eight steps.
+// The register after eight bytes: seven of them are taken on to the last one, and eight steps reduce the sum.
 fn near(x: u64) -> u64
     ensures { λ r. ⌜ r ≡ bits poly 64 x ⌝ }
 {

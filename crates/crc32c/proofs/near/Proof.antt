@@ -2,7 +2,7 @@
 -- Assumes nothing.
 use mathlib.Core.Path.{_∙_}
 use borrow.Author.Needs.{needs}
-use Rattle.crc32c.specs.Ahead.{multiple-at, ahead-none, ahead-more}
+use Rattle.crc32c.specs.Ahead.{factor-at, ahead-none, ahead-more}
 use Rattle.crc32c.proofs.near.Statement.{statement}
 use Rattle.crc32c.proofs.near.Tie as tie
 
@@ -40,12 +40,12 @@ returns c =
     let c2 = c3 .before .before in
     let c1 = c2 .before .before in
     c .steps8 .ensures
-    ∙ ahead-more 48 _ (c1 .before .args .x) _ _ (multiple-at 6) (c7 .steps7 .ensures)
-    (ahead-more 40 _ _ _ _ (multiple-at 5) (c6 .steps6 .ensures)
-    (ahead-more 32 _ _ _ _ (multiple-at 4) (c5 .steps5 .ensures)
-    (ahead-more 24 _ _ _ _ (multiple-at 3) (c4 .steps4 .ensures)
-    (ahead-more 16 _ _ _ _ (multiple-at 2) (c3 .steps3 .ensures)
-    (ahead-more 8 _ _ _ _ (multiple-at 1) (c2 .steps2 .ensures) (ahead-more 0 _ _ _ _ (multiple-at 0) (c1 .steps .ensures) (ahead-none _)))))))
+    ∙ ahead-more 48 _ (c1 .before .args .x) _ _ (factor-at 6) (c7 .steps7 .ensures)
+    (ahead-more 40 _ _ _ _ (factor-at 5) (c6 .steps6 .ensures)
+    (ahead-more 32 _ _ _ _ (factor-at 4) (c5 .steps5 .ensures)
+    (ahead-more 24 _ _ _ _ (factor-at 3) (c4 .steps4 .ensures)
+    (ahead-more 16 _ _ _ _ (factor-at 2) (c3 .steps3 .ensures)
+    (ahead-more 8 _ _ _ _ (factor-at 1) (c2 .steps2 .ensures) (ahead-more 0 _ _ _ _ (factor-at 0) (c1 .steps .ensures) (ahead-none _)))))))
     0
 
 pub near-spec : {M : Type 1} → statement M
