@@ -59,9 +59,9 @@ fn far(x: u64) -> u64
     steps(0x1E_D368_6580, 8, x % 256).register ^ r1
 }
 
-// The register after eight bytes: seven of them are taken on to the last one, and eight steps reduce the sum.
-fn near(x: u64) -> u64
-    ensures { λ r. ⌜ r ≡ bits poly 64 x ⌝ }
+// The same, eight bytes on.
+fn fold(x: u64) -> u64
+    ensures { λ r. ⌜ Ahead 64 x r ⌝ }
 {
     let x1 = x / 256;
     let x2 = x1 / 256;
@@ -70,14 +70,14 @@ fn near(x: u64) -> u64
     let x5 = x4 / 256;
     let x6 = x5 / 256;
     let x7 = x6 / 256;
-    let r6 = steps(0x79_35C1_8180, 8, x6 % 256).register ^ x7;
-    let r5 = steps(0x9_D14C_3B80, 8, x5 % 256).register ^ r6;
-    let r4 = steps(0x52_A0C9_3F00, 8, x4 % 256).register ^ r5;
-    let r3 = steps(0x6E_A2D5_5C00, 8, x3 % 256).register ^ r4;
-    let r2 = steps(0x1C_08B7_D600, 8, x2 % 256).register ^ r3;
-    let r1 = steps(0x77_9835_8C80, 8, x1 % 256).register ^ r2;
-    let r0 = steps(0x34_0196_6400, 8, x % 256).register ^ r1;
-    steps(POLYNOMIAL, 8, r0).register
+    let r7 = steps(0x79_35C1_8180, 8, x7).register;
+    let r6 = steps(0x9_D14C_3B80, 8, x6 % 256).register ^ r7;
+    let r5 = steps(0x52_A0C9_3F00, 8, x5 % 256).register ^ r6;
+    let r4 = steps(0x6E_A2D5_5C00, 8, x4 % 256).register ^ r5;
+    let r3 = steps(0x1C_08B7_D600, 8, x3 % 256).register ^ r4;
+    let r2 = steps(0x77_9835_8C80, 8, x2 % 256).register ^ r3;
+    let r1 = steps(0x34_0196_6400, 8, x1 % 256).register ^ r2;
+    steps(0x24_9E3E_9380, 8, x % 256).register ^ r1
 }
 
 fn wide(b: u8) -> u64
@@ -102,20 +102,26 @@ fn word_at(s: &[u8], at: usize) -> u64
     a + 256 * (b + 256 * (c + 256 * (d + 256 * (e + 256 * (f + 256 * (g + 256 * h))))))
 }
 
-// The register after all that stands in a slice from a place on: word by word, the last bytes two by two, and the last one.
+// The register after all that stands in a slice from a place on. A word is taken on as it is where another follows it. The last one is
+// reduced: six of its bytes are taken on to the last two, and sixteen steps do the rest. The bytes behind it go one by one.
 fn rest(c: u64, s: &[u8], at: usize) -> u64
     requires { ⌜ at ≤ length (now s) ⌝ }
     ensures { λ r. ⌜ r ≡ crcFrom c (drop at (now (s .entry))) ⌝ }
 {
     let mut x = c;
     let mut i = at;
-    while s.len() - i >= 8 {
-        x = near(x ^ word_at(s, i));
+    while s.len() - i >= 16 {
+        x = fold(x ^ word_at(s, i));
         i += 8;
     }
-    while s.len() - i >= 2 {
-        x = steps(POLYNOMIAL, 16, x ^ (wide(s[i]) + 256 * wide(s[i + 1]))).register;
-        i += 2;
+    while s.len() - i >= 8 {
+        let y = x ^ word_at(s, i);
+        x = steps(
+            POLYNOMIAL,
+            16,
+            fold(y % 0x1_0000_0000_0000 * 0x1_0000) ^ (y / 0x1_0000_0000_0000),
+        ).register;
+        i += 8;
     }
     while i < s.len() {
         x = steps(POLYNOMIAL, 8, x ^ wide(s[i])).register;
@@ -142,11 +148,10 @@ fn lanes(c: u64, s: &[u8]) -> u64
         e = far(e ^ word_at(s, i + 24));
         i += 32;
     }
-    let x = near(a ^ word_at(s, i));
-    let y = near(x ^ b ^ word_at(s, i + 8));
-    let z = near(y ^ d ^ word_at(s, i + 16));
-    let w = near(z ^ e ^ word_at(s, i + 24));
-    rest(w, s, i + 32)
+    let x = fold(a ^ word_at(s, i));
+    let y = fold(x ^ b ^ word_at(s, i + 8));
+    let z = fold(y ^ d ^ word_at(s, i + 16));
+    rest(z ^ e, s, i + 24)
 }
 
 // The CRC32C of a slice.

@@ -1,18 +1,18 @@
 -- `crc32c::rest` meets its contract. The invariant of each loop: what is left of the slice makes of the register what all of it makes of the first.
 -- Assumes nothing.
-use Prim.Native.Nat.{ℕ, _+_, _-_, _*_, _≤_, _<_}
-use mathlib.Core.Path.{_≡_, refl, sym, ap, ap₂, _∙_}
+use Prim.Native.Nat.{ℕ, _+_, _-_, _≤_, _<_}
+use mathlib.Core.Path.{_≡_, refl, sym, ap, _∙_}
 use native.Mathlib.Omega.{arith}
 use lib.Bits.{bitXor}
 use lib.ListN.{length, drop}
 use borrow.Author.Needs.{needs}
 use Rattle.crc32c.specs.Crc.{poly, bits, crcFrom}
-use Rattle.crc32c.specs.Words.{Bytes, eight-word, crcFrom-byte, crcFrom-end, crcFrom-pair, crcFrom-word}
+use Rattle.crc32c.specs.Words.{Bytes, crcFrom-byte, crcFrom-end, crcFrom-fold, crcFrom-reduced}
 use Rattle.crc32c.proofs.rest.Statement.{statement}
 use Rattle.crc32c.proofs.rest.Tie as tie
 use Rattle.crc32c.proofs.rest.Reads as reads
 use Rattle.crc32c.proofs.rest.Lts as lts
-use Rattle.crc32c.proofs.near.Reads as near-reads
+use Rattle.crc32c.proofs.fold.Reads as fold-reads
 use Rattle.crc32c.proofs.steps.Reads as steps-reads
 use Rattle.crc32c.proofs.wide.Reads as wide-reads
 use Rattle.crc32c.proofs.word_at.Reads as word-at-reads
@@ -44,8 +44,8 @@ sub-loop c = search needs
 word-at-requires : tie.Need-word-at-requires Inv-loop μ-loop Inv-loop2 μ-loop2 Inv-loop3 μ-loop3
 word-at-requires c κs = search needs
 
-near-requires : tie.Need-near-requires Inv-loop μ-loop Inv-loop2 μ-loop2 Inv-loop3 μ-loop3
-near-requires c κs = search needs
+fold-requires : tie.Need-fold-requires Inv-loop μ-loop Inv-loop2 μ-loop2 Inv-loop3 μ-loop3
+fold-requires c κs = search needs
 
 add-i : tie.Need-add-i Inv-loop μ-loop Inv-loop2 μ-loop2 Inv-loop3 μ-loop3
 add-i c = search needs
@@ -59,13 +59,7 @@ loop-again c =
     let b = c .before .before .before .before in
     let s = b .before .args .s .now in
     let hs : Bytes s = λ k. omega (arith, b .shared-slice-known .given k) in
-    let h : l .i + 8 ≤ length s = omega arith in (
-      h,
-      ap (λ (y : ℕ). crcFrom y (drop (l .i + 8) s))
-          (c .near .ensures ∙ ap (λ (y : ℕ). bits poly 64 (bitXor (l .x) y)) (c .before .word-at .ensures ∙ eight-word s (l .i)))
-          ∙ sym (crcFrom-word (l .x) s (l .i) hs h)
-          ∙ l .inv .1,
-    )
+    (omega arith, crcFrom-fold (l .x) s (l .i) _ _ hs (omega arith) (c .before .word-at .ensures) (c .fold .ensures) ∙ l .inv .1)
 
 loop2-holds : tie.Need-loop2-holds Inv-loop μ-loop Inv-loop2 μ-loop2 Inv-loop3 μ-loop3
 loop2-holds c = c .before .loop .inv
@@ -73,28 +67,15 @@ loop2-holds c = c .before .loop .inv
 sub-loop2 : tie.Need-sub-loop2 Inv-loop μ-loop Inv-loop2 μ-loop2 Inv-loop3 μ-loop3
 sub-loop2 c = search needs
 
-shared-slice-read-wide :
-    tie.Need-shared-slice-read-wide Inv-loop μ-loop Inv-loop2 μ-loop2 Inv-loop3 μ-loop3
-shared-slice-read-wide c = search needs
+word-at-requires-2 :
+    tie.Need-word-at-requires-2 Inv-loop μ-loop Inv-loop2 μ-loop2 Inv-loop3 μ-loop3
+word-at-requires-2 c κs = search needs
 
-wide-requires : tie.Need-wide-requires Inv-loop μ-loop Inv-loop2 μ-loop2 Inv-loop3 μ-loop3
-wide-requires c κs = search needs
+mul-fold : tie.Need-mul-fold Inv-loop μ-loop Inv-loop2 μ-loop2 Inv-loop3 μ-loop3
+mul-fold c = search needs
 
-add-wide : tie.Need-add-wide Inv-loop μ-loop Inv-loop2 μ-loop2 Inv-loop3 μ-loop3
-add-wide c = search needs
-
-shared-slice-read-wide-2 :
-    tie.Need-shared-slice-read-wide-2 Inv-loop μ-loop Inv-loop2 μ-loop2 Inv-loop3 μ-loop3
-shared-slice-read-wide-2 c = search needs
-
-wide-requires-2 : tie.Need-wide-requires-2 Inv-loop μ-loop Inv-loop2 μ-loop2 Inv-loop3 μ-loop3
-wide-requires-2 c κs = search needs
-
-mul-steps : tie.Need-mul-steps Inv-loop μ-loop Inv-loop2 μ-loop2 Inv-loop3 μ-loop3
-mul-steps c = search needs
-
-add-steps : tie.Need-add-steps Inv-loop μ-loop Inv-loop2 μ-loop2 Inv-loop3 μ-loop3
-add-steps c = search needs
+fold-requires-2 : tie.Need-fold-requires-2 Inv-loop μ-loop Inv-loop2 μ-loop2 Inv-loop3 μ-loop3
+fold-requires-2 c κs = search needs
 
 steps-requires : tie.Need-steps-requires Inv-loop μ-loop Inv-loop2 μ-loop2 Inv-loop3 μ-loop3
 steps-requires c κs = search needs
@@ -107,28 +88,24 @@ loop2-less c = search needs
 
 loop2-again : tie.Need-loop2-again Inv-loop μ-loop Inv-loop2 μ-loop2 Inv-loop3 μ-loop3
 loop2-again c =
-    let l = c .before .before .before .before .before .before .loop2 in
-    let b = c .before .before .before .before .before .before .before .before .before in
+    let l = c .before .before .before .before .loop2 in
+    let b = c .before .before .before .before .before .before .before in
     let s = b .before .args .s .now in
-    let hs : Bytes s = λ k. omega (arith, b .shared-slice-known .given k) in
-    let h : l .i + 2 ≤ length s = omega arith in (
-      h,
-      ap (λ (y : ℕ). crcFrom y (drop (l .i + 2) s))
-          (c .steps .ensures
-          ∙ ap₂ (λ (y z : ℕ). bits poly 16 (bitXor (l .x) (y + 256 * z))) (c .before .before .before .wide .ensures .0) (c .before .wide2 .ensures .0))
-          ∙ sym (crcFrom-pair (l .x) s (l .i) hs h)
+    let hs : Bytes s = λ k. omega (arith, b .shared-slice-known .given k) in (
+      omega arith,
+      crcFrom-reduced (l .x) s (l .i) _ _ _ hs (omega arith) (c .before .before .word-at2 .ensures) (c .before .fold2 .ensures) (c .steps .ensures)
           ∙ l .inv .1,
     )
 
 loop3-holds : tie.Need-loop3-holds Inv-loop μ-loop Inv-loop2 μ-loop2 Inv-loop3 μ-loop3
 loop3-holds c = c .before .loop2 .inv
 
-shared-slice-read-wide-3 :
-    tie.Need-shared-slice-read-wide-3 Inv-loop μ-loop Inv-loop2 μ-loop2 Inv-loop3 μ-loop3
-shared-slice-read-wide-3 c = search needs
+shared-slice-read-wide :
+    tie.Need-shared-slice-read-wide Inv-loop μ-loop Inv-loop2 μ-loop2 Inv-loop3 μ-loop3
+shared-slice-read-wide c = search needs
 
-wide-requires-3 : tie.Need-wide-requires-3 Inv-loop μ-loop Inv-loop2 μ-loop2 Inv-loop3 μ-loop3
-wide-requires-3 c κs = search needs
+wide-requires : tie.Need-wide-requires Inv-loop μ-loop Inv-loop2 μ-loop2 Inv-loop3 μ-loop3
+wide-requires c κs = search needs
 
 steps-requires-2 : tie.Need-steps-requires-2 Inv-loop μ-loop Inv-loop2 μ-loop2 Inv-loop3 μ-loop3
 steps-requires-2 c κs = search needs
@@ -146,7 +123,7 @@ loop3-again c =
     let h : l .i < length s = omega arith in (
       omega arith,
       ap (λ (y : ℕ). crcFrom y (drop (l .i + 1) s))
-          (c .steps2 .ensures ∙ ap (λ (y : ℕ). bits poly 8 (bitXor (l .x) y)) (c .before .wide3 .ensures .0))
+          (c .steps2 .ensures ∙ ap (λ (y : ℕ). bits poly 8 (bitXor (l .x) y)) (c .before .wide .ensures .0))
           ∙ sym (crcFrom-byte (l .x) s (l .i) h)
           ∙ l .inv .1,
     )
@@ -170,26 +147,22 @@ rest-spec =
     loop-holds
     sub-loop
     word-at-requires
-    near-requires
+    fold-requires
     add-i
     loop-less
     loop-again
     loop2-holds
     sub-loop2
-    shared-slice-read-wide
-    wide-requires
-    add-wide
-    shared-slice-read-wide-2
-    wide-requires-2
-    mul-steps
-    add-steps
+    word-at-requires-2
+    mul-fold
+    fold-requires-2
     steps-requires
     add-i-2
     loop2-less
     loop2-again
     loop3-holds
-    shared-slice-read-wide-3
-    wide-requires-3
+    shared-slice-read-wide
+    wide-requires
     steps-requires-2
     add-i-3
     loop3-less
