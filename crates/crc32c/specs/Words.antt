@@ -1,7 +1,7 @@
 -- Several bytes at once: the register after k bytes is that after 8 k bits, with the bytes' little-endian number added to it first.
 -- Assumes nothing.
-use Prim.Native.Nat.{ℕ, zero, suc, _+_, _*_, _^_, _≤_, _<_}
-use mathlib.Core.Path.{_≡_, refl, sym, ap, ap₂, _∙_}
+use Prim.Native.Nat.{ℕ, zero, suc, _+_, _*_, _/_, _%_, _^_, _≤_, _<_}
+use mathlib.Core.Path.{_≡_, refl, sym, ap, ap₂, subst, _∙_}
 use mathlib.Core.List.{List, [], _∷_, _++_}
 use native.Mathlib.Nat.{add-zero, add-suc}
 use native.Mathlib.Numerals.{add-one}
@@ -11,7 +11,8 @@ use lib.ListN.{length, getD, drop, drop-of-length-le}
 use lib.Seq.{drop-cons}
 use Rattle.crc32c.specs.Crc.{poly, bit, bits, byteStep, crcFrom, crcOf}
 use Rattle.crc32c.specs.Linear.{bits-xor, bits-add, bits-shifted, bits-lt}
-use Rattle.crc32c.specs.Xor.{xor-assoc, xor-swap}
+use Rattle.crc32c.specs.Xor.{xor-swap}
+use Rattle.crc32c.specs.Ahead.{Ahead, ahead-reduced}
 
 -- every number of a list is a byte
 abbrev pub Bytes : List ℕ → Type 0
@@ -93,6 +94,30 @@ eight-word s i = rw (add-zero i) (omega arith)
 pub crcFrom-word : (c : ℕ) (s : List ℕ) (i : ℕ) → Bytes s → i + 8 ≤ length s
     → crcFrom c (drop i s) ≡ crcFrom (bits poly 64 (bitXor c (word s i))) (drop (i + 8) s)
 crcFrom-word c s i hs h = ap (λ (n : ℕ). crcFrom c (drop n s)) (sym (add-zero i)) ∙ crcFrom-le 8 c s i 0 hs h
+
+-- the same by the word that was read: taken on as it is, where another word follows; and reduced
+pub crcFrom-fold : (c : ℕ) (s : List ℕ) (i u r : ℕ) → Bytes s → i + 16 ≤ length s → u ≡ eight s i → Ahead 64 (bitXor c u) r
+    → crcFrom r (drop (i + 8) s) ≡ crcFrom c (drop i s)
+crcFrom-fold c s i u r hs h eu hr =
+    let h1 : i + 8 ≤ length s = omega arith in
+    let h2 : i + 8 + 8 ≤ length s = omega arith in
+    let x : ℕ = bitXor c (word s i) in
+    let w : ℕ = word s (i + 8) in
+    let hx : Ahead 64 x r = subst (λ (k : ℕ). Ahead 64 (bitXor c k) r) (eu ∙ eight-word s i) hr in
+    crcFrom-word r s (i + 8) hs h2
+    ∙ ap (λ (k : ℕ). crcFrom k (drop (i + 8 + 8) s))
+    (bits-xor poly 64 r w
+    ∙ ap (λ (k : ℕ). bitXor k (bits poly 64 w)) (hx 56 ∙ bits-add poly 64 64 x)
+    ∙ sym (bits-xor poly 64 (bits poly 64 x) w))
+    ∙ sym (crcFrom-word (bits poly 64 x) s (i + 8) hs h2)
+    ∙ sym (crcFrom-word c s i hs h1)
+
+pub crcFrom-reduced : (c : ℕ) (s : List ℕ) (i u r q : ℕ) → Bytes s → i + 8 ≤ length s → u ≡ eight s i
+    → Ahead 64 (bitXor c u % 2 ^ 48 * 2 ^ 16) r → q ≡ bits poly 16 (bitXor r (bitXor c u / 2 ^ 48)) → crcFrom q (drop (i + 8) s) ≡ crcFrom c (drop i s)
+crcFrom-reduced c s i u r q hs h eu hr eq =
+    ap (λ (k : ℕ). crcFrom k (drop (i + 8) s))
+    (eq ∙ ahead-reduced (bitXor c u) r hr ∙ ap (λ (k : ℕ). bits poly 64 (bitXor c k)) (eu ∙ eight-word s i))
+    ∙ sym (crcFrom-word c s i hs h)
 
 -- the register and the checksum have 32 bits
 pub crcFrom-lt : (c : ℕ) (s : List ℕ) → c < 2 ^ 32 → Bytes s → crcFrom c s < 2 ^ 32

@@ -1,6 +1,6 @@
 // CRC32C of a slice, in four lanes of eight bytes.
 // No table stands here. Eight steps with a polynomial that is known are a loop that the compiler replaces by a look-up in a table of
-// 256 numbers, which it lays down once among the program's constants; a constant array of the source would be copied at each call.
+// 256 numbers, which it lays down once among the program's constants. A constant array of the source would be copied at each call.
 ghost use mathlib.Core.Path.{_≡_};
 ghost use Prim.Native.Nat.{_+_, _<_, _≤_};
 ghost use lib.ListN.{length, drop};
@@ -16,8 +16,9 @@ struct Stepped {
     added: u64,
 }
 
-// The register after k steps with a polynomial. No caller reads `added`. It is handed back because the compiler knows the loop again as
-// one for a table only where the choice between the two registers is left as it is written, and it is where both have a use.
+// The register after k steps with a polynomial. Two things are here only so that the compiler still knows the loop as one for a table where
+// it learns the polynomial, which is at the call. `added`, which no caller reads, keeps the choice between the two registers as it is written;
+// and k, which is 8 at most calls and 16 at one, keeps the loop from being unrolled before.
 fn steps(p: u64, k: usize, x: u64) -> Stepped
     ensures { λ r. ⌜ r .register ≡ bits p k x ⌝ }
 {
@@ -36,7 +37,8 @@ fn steps(p: u64, k: usize, x: u64) -> Stepped
     Stepped { register, added }
 }
 
-// What stands for eight bytes thirty-two bytes on. Each byte is multiplied, and the products are added; they reach eight bits above the register.
+// What stands for eight bytes thirty-two bytes on: each byte times the factor for its place, and the sum of the products.
+// They are not reduced, so the sum has up to 39 bits. The next word takes them in.
 fn far(x: u64) -> u64
     ensures { λ r. ⌜ Ahead 256 x r ⌝ }
 {
@@ -57,9 +59,9 @@ fn far(x: u64) -> u64
     steps(0x1E_D368_6580, 8, x % 256).register ^ r1
 }
 
-// The register after eight bytes: six of them sixteen bits ahead of the end, and then the sixteen.
-fn near(x: u64) -> u64
-    ensures { λ r. ⌜ r ≡ bits poly 64 x ⌝ }
+// The same, eight bytes on.
+fn fold(x: u64) -> u64
+    ensures { λ r. ⌜ Ahead 64 x r ⌝ }
 {
     let x1 = x / 256;
     let x2 = x1 / 256;
@@ -67,13 +69,15 @@ fn near(x: u64) -> u64
     let x4 = x3 / 256;
     let x5 = x4 / 256;
     let x6 = x5 / 256;
-    let r5 = steps(0x79_35C1_8180, 8, x5 % 256).register ^ x6;
-    let r4 = steps(0x9_D14C_3B80, 8, x4 % 256).register ^ r5;
-    let r3 = steps(0x52_A0C9_3F00, 8, x3 % 256).register ^ r4;
-    let r2 = steps(0x6E_A2D5_5C00, 8, x2 % 256).register ^ r3;
-    let r1 = steps(0x1C_08B7_D600, 8, x1 % 256).register ^ r2;
-    let r0 = steps(0x77_9835_8C80, 8, x % 256).register ^ r1;
-    steps(POLYNOMIAL, 16, r0).register
+    let x7 = x6 / 256;
+    let r7 = steps(0x79_35C1_8180, 8, x7).register;
+    let r6 = steps(0x9_D14C_3B80, 8, x6 % 256).register ^ r7;
+    let r5 = steps(0x52_A0C9_3F00, 8, x5 % 256).register ^ r6;
+    let r4 = steps(0x6E_A2D5_5C00, 8, x4 % 256).register ^ r5;
+    let r3 = steps(0x1C_08B7_D600, 8, x3 % 256).register ^ r4;
+    let r2 = steps(0x77_9835_8C80, 8, x2 % 256).register ^ r3;
+    let r1 = steps(0x34_0196_6400, 8, x1 % 256).register ^ r2;
+    steps(0x24_9E3E_9380, 8, x % 256).register ^ r1
 }
 
 fn wide(b: u8) -> u64
@@ -98,15 +102,25 @@ fn word_at(s: &[u8], at: usize) -> u64
     a + 256 * (b + 256 * (c + 256 * (d + 256 * (e + 256 * (f + 256 * (g + 256 * h))))))
 }
 
-// The register after all that stands in a slice from a place on: word by word, and the last bytes one by one.
+// The register after all that stands in a slice from a place on. A word is taken on as it is where another follows it. The last one is
+// reduced: six of its bytes are taken on to the last two, and sixteen steps do the rest. The bytes behind it go one by one.
 fn rest(c: u64, s: &[u8], at: usize) -> u64
     requires { ⌜ at ≤ length (now s) ⌝ }
     ensures { λ r. ⌜ r ≡ crcFrom c (drop at (now (s .entry))) ⌝ }
 {
     let mut x = c;
     let mut i = at;
+    while s.len() - i >= 16 {
+        x = fold(x ^ word_at(s, i));
+        i += 8;
+    }
     while s.len() - i >= 8 {
-        x = near(x ^ word_at(s, i));
+        let y = x ^ word_at(s, i);
+        x = steps(
+            POLYNOMIAL,
+            16,
+            fold(y % 0x1_0000_0000_0000 * 0x1_0000) ^ (y / 0x1_0000_0000_0000),
+        ).register;
         i += 8;
     }
     while i < s.len() {
@@ -134,11 +148,10 @@ fn lanes(c: u64, s: &[u8]) -> u64
         e = far(e ^ word_at(s, i + 24));
         i += 32;
     }
-    let x = near(a ^ word_at(s, i));
-    let y = near(x ^ b ^ word_at(s, i + 8));
-    let z = near(y ^ d ^ word_at(s, i + 16));
-    let w = near(z ^ e ^ word_at(s, i + 24));
-    rest(w, s, i + 32)
+    let x = fold(a ^ word_at(s, i));
+    let y = fold(x ^ b ^ word_at(s, i + 8));
+    let z = fold(y ^ d ^ word_at(s, i + 16));
+    rest(z ^ e, s, i + 24)
 }
 
 // The CRC32C of a slice.

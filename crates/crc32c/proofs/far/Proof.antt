@@ -1,8 +1,8 @@
--- `crc32c::far` meets its contract: a byte at a time, from the lowest, each with the multiple that takes it as far as it has to go.
+-- `crc32c::far` meets its contract: a byte at a time, from the lowest, each with the factor that takes it thirty-two bytes on.
 -- Assumes nothing.
 use Prim.Native.Nat.{ℕ, _/_, _%_, _<_}
 use native.Mathlib.Omega.{arith}
-use Rattle.crc32c.specs.Ahead.{multiple-at, ahead-byte, ahead-more}
+use Rattle.crc32c.specs.Ahead.{factor-at, ahead-byte, ahead-more}
 use borrow.Author.Needs.{needs}
 use Rattle.crc32c.proofs.far.Statement.{statement}
 use Rattle.crc32c.proofs.far.Tie as tie
@@ -40,14 +40,14 @@ returns c =
     let c3 = c4 .before .before in
     let c2 = c3 .before .before in
     let start = c2 .before .before in
-    ahead-more 248 _ (start .args .x) _ _ (multiple-at 13) (c .before .steps8 .ensures)
-    (ahead-more 240 _ _ _ _ (multiple-at 12) (c7 .steps7 .ensures)
-    (ahead-more 232 _ _ _ _ (multiple-at 11) (c6 .steps6 .ensures)
-    (ahead-more 224 _ _ _ _ (multiple-at 10) (c5 .steps5 .ensures)
-    (ahead-more 216 _ _ _ _ (multiple-at 9) (c4 .steps4 .ensures)
-    (ahead-more 208 _ _ _ _ (multiple-at 8) (c3 .steps3 .ensures)
-    (ahead-more 200 _ _ _ _ (multiple-at 7) (c2 .steps2 .ensures)
-    (ahead-byte 200 _ _ _ (multiple-at 6) (omega (arith, start .fits .x)) (c2 .before .steps .ensures))))))))
+    ahead-more 248 _ (start .args .x) _ _ (factor-at 15) (c .before .steps8 .ensures)
+    (ahead-more 240 _ _ _ _ (factor-at 14) (c7 .steps7 .ensures)
+    (ahead-more 232 _ _ _ _ (factor-at 13) (c6 .steps6 .ensures)
+    (ahead-more 224 _ _ _ _ (factor-at 12) (c5 .steps5 .ensures)
+    (ahead-more 216 _ _ _ _ (factor-at 11) (c4 .steps4 .ensures)
+    (ahead-more 208 _ _ _ _ (factor-at 10) (c3 .steps3 .ensures)
+    (ahead-more 200 _ _ _ _ (factor-at 9) (c2 .steps2 .ensures)
+    (ahead-byte 200 _ _ _ (factor-at 8) (omega (arith, start .fits .x)) (c2 .before .steps .ensures))))))))
 
 pub far-spec : {M : Type 1} → statement M
 far-spec =

@@ -12,7 +12,7 @@ use Rattle.crc32c.proofs.lanes.Tie as tie
 use Rattle.crc32c.proofs.lanes.Reads as reads
 use Rattle.crc32c.proofs.lanes.Lts as lts
 use Rattle.crc32c.proofs.far.Reads as far-reads
-use Rattle.crc32c.proofs.near.Reads as near-reads
+use Rattle.crc32c.proofs.fold.Reads as fold-reads
 use Rattle.crc32c.proofs.rest.Reads as rest-reads
 use Rattle.crc32c.proofs.word_at.Reads as word-at-reads
 
@@ -80,16 +80,16 @@ loop-again c =
     let s = a .s .now in
     let hs : Bytes s = λ n. omega (arith, k .shared-slice-known .given n) in
     lanes-next (a .c) s (l .a) (l .b) (l .d) (l .e) (l .i) _ _ _ _ hs (l .inv) (omega arith)
-    (lane s (l .i) (l .a) _ _ (c1 .before .word-at .ensures) (c1 .far .ensures))
-    (lane s (l .i + 8) (l .b) _ _ (c2 .before .word-at2 .ensures) (c2 .far2 .ensures))
-    (lane s (l .i + 16) (l .d) _ _ (c3 .before .word-at3 .ensures) (c3 .far3 .ensures))
-    (lane s (l .i + 24) (l .e) _ _ (c .before .word-at4 .ensures) (c .far4 .ensures))
+    (lane 256 s (l .i) (l .a) _ _ (c1 .before .word-at .ensures) (c1 .far .ensures))
+    (lane 256 s (l .i + 8) (l .b) _ _ (c2 .before .word-at2 .ensures) (c2 .far2 .ensures))
+    (lane 256 s (l .i + 16) (l .d) _ _ (c3 .before .word-at3 .ensures) (c3 .far3 .ensures))
+    (lane 256 s (l .i + 24) (l .e) _ _ (c .before .word-at4 .ensures) (c .far4 .ensures))
 
 word-at-requires-5 : tie.Need-word-at-requires-5 Inv-loop μ-loop
 word-at-requires-5 c κs = search needs
 
-near-requires : tie.Need-near-requires Inv-loop μ-loop
-near-requires c κs = search needs
+fold-requires : tie.Need-fold-requires Inv-loop μ-loop
+fold-requires c κs = search needs
 
 add-word-at-4 : tie.Need-add-word-at-4 Inv-loop μ-loop
 add-word-at-4 c = search needs
@@ -97,8 +97,8 @@ add-word-at-4 c = search needs
 word-at-requires-6 : tie.Need-word-at-requires-6 Inv-loop μ-loop
 word-at-requires-6 c κs = search needs
 
-near-requires-2 : tie.Need-near-requires-2 Inv-loop μ-loop
-near-requires-2 c κs = search needs
+fold-requires-2 : tie.Need-fold-requires-2 Inv-loop μ-loop
+fold-requires-2 c κs = search needs
 
 add-word-at-5 : tie.Need-add-word-at-5 Inv-loop μ-loop
 add-word-at-5 c = search needs
@@ -106,17 +106,8 @@ add-word-at-5 c = search needs
 word-at-requires-7 : tie.Need-word-at-requires-7 Inv-loop μ-loop
 word-at-requires-7 c κs = search needs
 
-near-requires-3 : tie.Need-near-requires-3 Inv-loop μ-loop
-near-requires-3 c κs = search needs
-
-add-word-at-6 : tie.Need-add-word-at-6 Inv-loop μ-loop
-add-word-at-6 c = search needs
-
-word-at-requires-8 : tie.Need-word-at-requires-8 Inv-loop μ-loop
-word-at-requires-8 c κs = search needs
-
-near-requires-4 : tie.Need-near-requires-4 Inv-loop μ-loop
-near-requires-4 c κs = search needs
+fold-requires-3 : tie.Need-fold-requires-3 Inv-loop μ-loop
+fold-requires-3 c κs = search needs
 
 add-rest : tie.Need-add-rest Inv-loop μ-loop
 add-rest c = search needs
@@ -126,18 +117,19 @@ rest-requires c κs = search needs
 
 returns : tie.Need-returns Inv-loop μ-loop
 returns c =
-    let c4 = c .before in
-    let c3 = c4 .before .before in
+    let c3 = c .before in
     let c2 = c3 .before .before in
     let c1 = c2 .before .before in
     let l = c1 .before .before .before .loop in
-    let a = c1 .before .before .before .before .before .args in
+    let k = c1 .before .before .before .before in
+    let a = k .before .args in
     let s = a .s .now in
+    let hs : Bytes s = λ n. omega (arith, k .shared-slice-known .given n) in
     c .rest .ensures
-    ∙ lanes-last (a .c) s (l .a) (l .b) (l .d) (l .e) (l .i) _ _ _ _ _ (l .inv) (c1 .before .word-at5 .ensures) (c1 .near .ensures)
-    (joined s (l .i + 8) (c1 .near .result) (l .b) _ _ (c2 .before .word-at6 .ensures) (c2 .near2 .ensures))
-    (joined s (l .i + 16) (c2 .near2 .result) (l .d) _ _ (c3 .before .word-at7 .ensures) (c3 .near3 .ensures))
-    (joined s (l .i + 24) (c3 .near3 .result) (l .e) _ _ (c4 .before .word-at8 .ensures) (c4 .near4 .ensures))
+    ∙ lanes-last (a .c) s (l .a) (l .b) (l .d) (l .e) (l .i) _ _ _ hs (l .inv)
+    (lane 64 s (l .i) (l .a) _ _ (c1 .before .word-at5 .ensures) (c1 .fold .ensures))
+    (joined s (l .i + 8) (c1 .fold .result) (l .b) _ _ (c2 .before .word-at6 .ensures) (c2 .fold2 .ensures))
+    (joined s (l .i + 16) (c2 .fold2 .result) (l .d) _ _ (c3 .before .word-at7 .ensures) (c3 .fold3 .ensures))
 
 pub lanes-spec : {M : Type 1} → statement M
 lanes-spec =
@@ -162,16 +154,13 @@ lanes-spec =
     loop-less
     loop-again
     word-at-requires-5
-    near-requires
+    fold-requires
     add-word-at-4
     word-at-requires-6
-    near-requires-2
+    fold-requires-2
     add-word-at-5
     word-at-requires-7
-    near-requires-3
-    add-word-at-6
-    word-at-requires-8
-    near-requires-4
+    fold-requires-3
     add-rest
     rest-requires
     returns)
