@@ -44,8 +44,8 @@ pub extern "C" fn rvf_varint_write(buffer: &mut [u8], value: u64, out: &mut [u64
     let w = varint::write(buffer, value);
     match w {
         Wrote::Refused(e) => e,
-        Wrote::Length(n) => {
-            out[0] = n as u64;
+        Wrote::Length(length) => {
+            out[0] = length as u64;
             0
         }
     }
@@ -66,8 +66,8 @@ pub extern "C" fn rvf_idmap_read(
     let w = idmap_read::read(bytes, count, ids);
     match w {
         Wrote::Refused(e) => e,
-        Wrote::Length(n) => {
-            out[0] = n as u64;
+        Wrote::Length(map_length) => {
+            out[0] = map_length as u64;
             0
         }
     }
@@ -89,8 +89,8 @@ pub extern "C" fn rvf_idmap_write(
     let w = idmap_write::write(buffer, ids, encoding, interval);
     match w {
         Wrote::Refused(e) => e,
-        Wrote::Length(n) => {
-            out[0] = n as u64;
+        Wrote::Length(written) => {
+            out[0] = written as u64;
             0
         }
     }
