@@ -5,10 +5,6 @@ use borrow.Author.Needs.{needs}
 use Rattle.crc32c.specs.Words.{crcOf-by, crcOf-lt}
 use Rattle.crc32c.proofs.checksum.Statement.{statement}
 use Rattle.crc32c.proofs.checksum.Tie as tie
-use Rattle.crc32c.proofs.checksum.Reads as reads
-use Rattle.crc32c.proofs.checksum.Lts as lts
-use Rattle.crc32c.proofs.lanes.Reads as lanes-reads
-use Rattle.crc32c.proofs.rest.Reads as rest-reads
 
 rest-requires : tie.Need-rest-requires
 rest-requires c κs = search needs

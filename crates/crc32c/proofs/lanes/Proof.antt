@@ -9,12 +9,6 @@ use Rattle.crc32c.specs.Words.{Bytes}
 use Rattle.crc32c.specs.Lanes.{Lanes, lane, joined, lanes-first, lanes-next, lanes-last}
 use Rattle.crc32c.proofs.lanes.Statement.{statement}
 use Rattle.crc32c.proofs.lanes.Tie as tie
-use Rattle.crc32c.proofs.lanes.Reads as reads
-use Rattle.crc32c.proofs.lanes.Lts as lts
-use Rattle.crc32c.proofs.far.Reads as far-reads
-use Rattle.crc32c.proofs.fold.Reads as fold-reads
-use Rattle.crc32c.proofs.rest.Reads as rest-reads
-use Rattle.crc32c.proofs.word_at.Reads as word-at-reads
 
 abbrev Inv-loop : tie.InvT-loop
 Inv-loop c s a₀ b₀ d₀ e₀ i₀ a b d e i = Lanes c s a b d e i
