@@ -1,0 +1,41 @@
+/* The exported calls of the store.
+ *
+ * Every call returns 0 where it accepts, else the number of the refusal below, and writes its
+ * values to `out`. A refused call changes no byte of any buffer that it was lent, `out` included.
+ * A slice is a pointer and a length in elements; for length 0 the pointer must still not be null.
+ *
+ *   5  layout, id map or varint breaks a rule
+ *   9  lent buffer too short
+ *  14  writer's input breaks a rule
+ */
+#ifndef RVF_H
+#define RVF_H
+
+#include <stddef.h>
+#include <stdint.h>
+
+#ifdef __cplusplus
+extern "C" {
+#endif
+
+/* The CRC32C (RFC 3720) of all bytes. Never refuses. */
+uint32_t rvf_crc32c(const uint8_t *bytes, size_t len);
+
+/* The varint at the front of the bytes; more may follow. out: value, length. Refuses 5. */
+uint32_t rvf_varint_read(const uint8_t *bytes, size_t len, uint64_t out[2]);
+
+/* The varint of a number at the front of a buffer. out: length. Refuses 9. */
+uint32_t rvf_varint_write(uint8_t *buffer, size_t len, uint64_t value, uint64_t out[1]);
+
+/* The ids of an id map of `count` ids at the front of the bytes; more may follow. Writes the ids
+ * to `ids`. out: the map's length in bytes. Refuses 5 (a count outside 1 to 4,096 too), then 9. */
+uint32_t rvf_idmap_read(const uint8_t *bytes, size_t len, uint64_t count, uint64_t *ids, size_t ids_len, uint64_t out[1]);
+
+/* The id map of ids that rise strictly, 1 to 4,096 of them, at the front of a buffer. encoding: 0 raw
+ * (interval 0), 1 delta (interval up to 65,535; 0 means 64). out: length. Refuses 14, then 9. */
+uint32_t rvf_idmap_write(uint8_t *buffer, size_t len, const uint64_t *ids, size_t ids_len, uint64_t encoding, uint64_t interval, uint64_t out[1]);
+
+#ifdef __cplusplus
+}
+#endif
+#endif
