@@ -9,3 +9,11 @@ maxVectors = 4096
 -- the restart interval that an asked 0 means
 abbrev pub defaultInterval : ℕ
 defaultInterval = 64
+
+-- blocks in a VEC_SEG payload
+abbrev pub maxBlocks : ℕ
+maxBlocks = 64
+
+-- values of a vector
+abbrev pub maxDim : ℕ
+maxDim = 1024

@@ -3,3 +3,7 @@
 pub const MAX_VECTORS: usize = 4096;
 // The restart interval that a delta map gets where 0 is asked.
 pub const DEFAULT_INTERVAL: u64 = 64;
+// Blocks in a VEC_SEG payload: 0 to this.
+pub const MAX_BLOCKS: usize = 64;
+// Values of a vector: 1 to this.
+pub const MAX_DIM: usize = 1024;
