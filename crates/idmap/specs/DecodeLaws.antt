@@ -52,6 +52,17 @@ pub whole : (m : MapRead) (n count : ℕ) (out : List ℕ) → m ≡ Whole n (ta
 unfolding mapAnswer idsOf
 whole m n count out e h = rw (e, length-take-le count out h) (refl, refl)
 
+-- and what the answer says of the map
+pub was-broken : (m : MapRead) (e : ℕ) → mapAnswer m ≡ Refused e → m ≡ Broken
+unfolding mapAnswer
+was-broken (Whole n ids) e p = absurd (let z : _≡_ {A = ℕ} 0 1 = cc in omega arith)
+was-broken Broken e p = refl
+
+pub was-whole : (m : MapRead) (n : ℕ) → mapAnswer m ≡ Length n → m ≡ Whole n (idsOf m)
+unfolding mapAnswer idsOf
+was-whole (Whole k ids) n p = let e : k ≡ n = cc in rw e
+was-whole Broken n p = absurd (let z : _≡_ {A = ℕ} 0 1 = cc in omega arith)
+
 -- ---- raw
 
 pub record RawAt (s : List ℕ) (count i prev : ℕ) (ids : List ℕ) : Type 0 where

@@ -12,23 +12,13 @@ use Rattle.octets.specs.Over.{over}
 use Rattle.answers.specs.declared.Wrote.{Wrote}
 use Rattle.answers.specs.declared.Wrote.the-variants.{Length, Refused}
 use Rattle.idmap.specs.Decode.{MapRead, Whole, Broken, mapOf, idsOf, mapAnswer, readAnswer, readBuffer}
-use Rattle.idmap.specs.DecodeLaws.{Filled}
+use Rattle.idmap.specs.DecodeLaws.{Filled, was-broken, was-whole}
 use Rattle.idmap.specs.Count.{whole-count}
 
 -- both promises, of a map that is broken
 unread : (m : MapRead) (buf : List ℕ) → m ≡ Broken → (Refused 5 ≡ readAnswer m buf) × (buf ≡ readBuffer m buf)
 unfolding readAnswer readBuffer
 unread m buf e = rw e (refl, refl)
-
-was-broken : (m : MapRead) (e : ℕ) → mapAnswer m ≡ Refused e → m ≡ Broken
-unfolding mapAnswer
-was-broken (Whole n ids) e p = absurd (let z : _≡_ {A = ℕ} 0 1 = cc in omega arith)
-was-broken Broken e p = refl
-
-was-whole : (m : MapRead) (n : ℕ) → mapAnswer m ≡ Length n → m ≡ Whole n (idsOf m)
-unfolding mapAnswer idsOf
-was-whole (Whole k ids) n p = let e : k ≡ n = cc in rw e
-was-whole Broken n p = absurd (let z : _≡_ {A = ℕ} 0 1 = cc in omega arith)
 
 -- a count out of bounds
 module _ (count : ℕ) (s buf : List ℕ) where

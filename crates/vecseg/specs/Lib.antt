@@ -1,4 +1,7 @@
 -- VEC_SEG payloads: what is sound, what is found in one, and what the one-block writer writes.
 pub mod Payload
+pub mod LineLaws
+pub mod BlockLaws
+pub mod CheckLaws
 pub mod Find
 pub mod Writer
