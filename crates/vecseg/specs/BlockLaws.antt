@@ -175,7 +175,7 @@ module _ (s : List ℕ) (n start i at : ℕ) (st : BlocksAt s n start i at) (h :
         let inside = st .inside in
         let e : 4 + 12 * i + 12 ≡ 4 + 12 * (i + 1) = omega arith in
         let one : blocksBad (n - i) at (drop (4 + 12 * i) s) s ≡ blocksBad (n - (i + 1)) (at + k) (drop (4 + 12 * (i + 1)) s) s =
-            rw fuel (rw (eq-eqb (lineOf (drop (4 + 12 * i) s) .offset) at here, p, blocksBad) (rw (drop-drop 12 (4 + 12 * i) s, e))) in
+        rw fuel (rw (eq-eqb (lineOf (drop (4 + 12 * i) s) .offset) at here, p, blocksBad) (rw (drop-drop 12 (4 + 12 * i) s, e))) in
         record { few = omega arith; inside = omega (arith, block-good _ (drop at s) k p .fits, length-drop at s); same = sym one ∙ st .same }
 
 module _ (s : List ℕ) (n start i at : ℕ) (st : BlocksAt s n start i at) (h : n ≤ i) where

@@ -1,0 +1,3 @@
+-- What the checks of a VEC_SEG payload answer.
+pub mod Block
+pub mod Turn
