@@ -4,7 +4,6 @@ use Prim.Native.Nat.{ℕ, _+_, _-_, _*_, _≤_, _<_}
 use mathlib.Core.Path.{_≡_, refl, sym, ap, _∙_}
 use mathlib.Core.Bool.{true, false}
 use mathlib.Core.List.{List}
-use native.Mathlib.Nat.{mul-le-mul}
 use native.Mathlib.Omega.{arith}
 use lib.ListN.{length, take, drop}
 use Rattle.octets.specs.Round.{round64}
@@ -51,12 +50,6 @@ unfolding blockAnswer
 answers-bad b e p = rw p
 
 -- ---- the ways out of a block's check, of the numbers as the code has them
-
-pub columns-fit : (count dim w : ℕ) → count ≤ 4096 → dim ≤ 1024 → w ≤ 4 → (count * dim ≤ 4194304) × (count * dim * w ≤ 16777216)
-columns-fit count dim w a b c =
-    let p : count * dim ≤ 4096 * 1024 = mul-le-mul a b in
-    let q : count * dim * w ≤ 4096 * 1024 * 4 = mul-le-mul p c in
-    (p, q)
 
 pub columns-are : (count dim dtype w : ℕ) → w ≡ width dtype → count * dim * w ≡ columnsLength (lineWith count dim dtype)
 unfolding columnsLength lineWith

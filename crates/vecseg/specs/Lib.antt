@@ -4,4 +4,5 @@ pub mod LineLaws
 pub mod BlockLaws
 pub mod CheckLaws
 pub mod Find
+pub mod FindLaws
 pub mod Writer

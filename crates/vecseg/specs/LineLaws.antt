@@ -4,6 +4,7 @@ use Prim.Native.Nat.{ℕ, zero, suc, _+_, _-_, _*_, _≤_, _<_}
 use mathlib.Core.Path.{_≡_, refl, sym, ap, _∙_}
 use mathlib.Core.Bool.{Bool, true, false, cond, _&&_, _||_}
 use mathlib.Core.List.{List}
+use native.Mathlib.Nat.{mul-le-mul}
 use native.Mathlib.Omega.{arith}
 use lib.Dec.{eqb, leb, ltb}
 use lib.ListN.{length, getD, take, drop}
@@ -59,6 +60,13 @@ width-most dtype = pick (eqb dtype 0) (eqb dtype 3 || eqb dtype 4)
     pick true u = omega arith
     pick false true = omega arith
     pick false false = omega arith
+
+-- columns within bounds
+pub columns-fit : (count dim w : ℕ) → count ≤ 4096 → dim ≤ 1024 → w ≤ 4 → (count * dim ≤ 4194304) × (count * dim * w ≤ 16777216)
+columns-fit count dim w a b c =
+    let p : count * dim ≤ 4096 * 1024 = mul-le-mul a b in
+    let q : count * dim * w ≤ 4096 * 1024 * 4 = mul-le-mul p c in
+    (p, q)
 
 -- ---- the ways out of a line's check
 

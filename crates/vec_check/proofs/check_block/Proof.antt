@@ -6,8 +6,8 @@ use native.Mathlib.Omega.{arith}
 use lib.Seq.{length-take-le}
 use lib.ListN.{length}
 use borrow.Author.Tests.{not-true, not-false}
-use Rattle.vecseg.specs.LineLaws.{width-most}
-use Rattle.vec_check.specs.Block.{columns-fit, columns-are, check-columns, check-broken, check-fits, check-end, check-checksum, check-padding, check-sound}
+use Rattle.vecseg.specs.LineLaws.{width-most, columns-fit}
+use Rattle.vec_check.specs.Block.{columns-are, check-columns, check-broken, check-fits, check-end, check-checksum, check-padding, check-sound}
 use borrow.Author.Needs.{needs}
 use Rattle.vec_check.proofs.check_block.Statement.{statement}
 use Rattle.vec_check.proofs.check_block.Tie as tie

@@ -1,0 +1,2 @@
+-- What the search for a vector id answers.
+pub mod Found
