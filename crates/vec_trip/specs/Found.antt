@@ -1,26 +1,26 @@
 -- What the vector writer writes holds each of its ids at its own place, and no other id.
 -- Assumes nothing.
-use Prim.Native.Nat.{ℕ, zero, suc, _+_, _-_, _*_, _^_, _≤_, _<_}
+use Prim.Native.Nat.{ℕ, zero, suc, _+_, _*_, _≤_, _<_}
 use mathlib.Core.Path.{_≡_, refl, sym, ap, _∙_}
-use mathlib.Core.Bool.{Bool, true, false, cond, _&&_}
-use mathlib.Core.Option.{Option, none, some}
+use mathlib.Core.Bool.{true}
+use mathlib.Core.Option.{none, some}
 use mathlib.Core.List.{List, [], _∷_, _++_}
 use native.Mathlib.Omega.{arith}
-use lib.Dec.{eqb, leb}
-use lib.ListN.{length, getD, take, drop}
+use lib.Dec.{leb}
+use lib.ListN.{length, getD, drop}
 use lib.Seq.{drop-drop}
 use borrow.Author.Tests.{eq-eqb, ne-eqb, leb-true}
 use Rattle.le.specs.Le.{leBytes}
 use Rattle.crc32c.specs.Crc.{crcOf}
 use Rattle.idmap.specs.Encode.{mapBytes, risesFrom}
 use Rattle.idmap.specs.EncodeLaws.{and-true}
-use Rattle.idmap.specs.Decode.{Whole, mapOf, idsOf}
-use Rattle.idmap.specs.Accepted.{Good, good}
+use Rattle.idmap.specs.Decode.{idsOf}
+use Rattle.idmap.specs.Accepted.{good}
 use Rattle.idmap.specs.Trip.{Words, read-back}
-use Rattle.vecseg.specs.Payload.{Line, lineOf, width, columnsLength, blockCount}
-use Rattle.vecseg.specs.Find.{lineAt, idsAt, indexOf, Place, findUpTo, findIn}
-use Rattle.vecseg.specs.Writer.{vecBad, vecBytes, blockBytes, padding, directory}
-use Rattle.vec_write.specs.Refusal.{Accepted, accepted}
+use Rattle.vecseg.specs.Payload.{width, columnsLength, blockCount}
+use Rattle.vecseg.specs.Find.{lineAt, idsAt, indexOf, findUpTo, findIn}
+use Rattle.vecseg.specs.Writer.{vecBad, vecBytes, blockBytes, padding}
+use Rattle.vec_write.specs.Refusal.{accepted}
 use Rattle.vec_trip.specs.Shape.{lineFor, one-block, line-is, block-at}
 use Rattle.vec_trip.specs.Sound.{map-at}
 

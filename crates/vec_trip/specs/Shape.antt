@@ -1,21 +1,21 @@
 -- Where the parts of a payload of one block stand: the directory's line, its fill, the block.
 -- Assumes nothing.
-use Prim.Native.Nat.{ℕ, zero, suc, _+_, _-_, _*_, _^_, _≤_, _<_}
-use mathlib.Core.Path.{_≡_, refl, sym, ap, _∙_}
-use mathlib.Core.Bool.{Bool, true, false, cond, _&&_}
-use mathlib.Core.List.{List, [], _∷_, _++_, append-assoc}
+use Prim.Native.Nat.{ℕ, _^_, _<_}
+use mathlib.Core.Path.{_≡_, refl}
+use mathlib.Core.Bool.{true}
+use mathlib.Core.List.{List, _++_, append-assoc}
 use native.Mathlib.Omega.{arith}
-use lib.Dec.{leb, lit<}
-use lib.ListN.{length, getD, take, drop, length-append}
-use lib.Seq.{take-at, drop-at, drop-drop}
+use lib.Dec.{lit<}
+use lib.ListN.{length, take, drop, length-append}
+use lib.Seq.{take-at, drop-at}
 use borrow.Author.Tests.{le-leb}
 use Rattle.octets.specs.Round.{round64}
-use Rattle.octets.specs.Zero.{allZero, zeros-all}
+use Rattle.octets.specs.Zero.{zeros-all}
 use Rattle.le.specs.Le.{leOf, leBytes}
 use Rattle.le.specs.Laws.{leOf-leBytes}
 use Rattle.vecseg.specs.Payload.{Line, lineOf, blockCount, filled}
 use Rattle.vecseg.specs.Writer.{padding, directory}
-use Rattle.vec_write.specs.Laid.{length-directory, length-padding, length-front}
+use Rattle.vec_write.specs.Laid.{length-directory, length-front}
 
 -- the line of the block that a writer writes
 unfoldable pub lineFor : ℕ → ℕ → ℕ → ℕ → Line
@@ -41,7 +41,6 @@ module _ (count dim dtype tier : ℕ) (rest : List ℕ) where
   pub fill-is : filled 16 ((directory count dim dtype tier ++ padding 16) ++ rest) ≡ true
   unfolding filled round64 padding
   fill-is =
-      let p : List ℕ = padding 16 in
       let l = length-append (directory count dim dtype tier ++ padding 16) rest in
       let f = length-front count dim dtype tier in
       let d : drop 16 ((directory count dim dtype tier ++ padding 16) ++ rest) ≡ padding 16 ++ rest =

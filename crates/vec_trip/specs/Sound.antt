@@ -1,29 +1,27 @@
 -- What the vector writer writes passes the check of a payload, for every input that it accepts.
 -- Assumes nothing.
-use Prim.Native.Nat.{ℕ, zero, suc, _+_, _-_, _*_, _^_, _≤_, _<_}
+use Prim.Native.Nat.{ℕ, _+_, _-_, _^_, _≤_, _<_}
 use mathlib.Core.Path.{_≡_, refl, sym, ap, _∙_}
-use mathlib.Core.Bool.{Bool, true, false, cond, _&&_}
-use mathlib.Core.List.{List, [], _∷_, _++_, append-assoc}
+use mathlib.Core.Bool.{true}
+use mathlib.Core.List.{List, _++_, append-assoc}
 use native.Mathlib.Omega.{arith}
-use lib.Dec.{eqb, leb, ltb}
-use lib.ListN.{length, getD, take, drop, replicate, length-append, length-replicate}
+use lib.ListN.{length, take, drop, replicate, length-append, length-replicate}
 use lib.Seq.{take-at, drop-at, take-all}
 use borrow.Author.Tests.{le-leb, lt-ltb, eq-eqb}
 use Rattle.octets.specs.Round.{round64, round64-ge}
 use Rattle.octets.specs.Zero.{allZero, zeros-all}
-use Rattle.le.specs.Le.{leOf, leAt, leBytes, Bytes}
+use Rattle.le.specs.Le.{leOf, leBytes, Bytes}
 use Rattle.le.specs.Laws.{bytes-append, length-leBytes, leOf-leBytes}
-use Rattle.limits.specs.Limits.{maxVectors, maxBlocks, maxDim}
 use Rattle.crc32c.specs.Crc.{crcOf}
 use Rattle.crc32c.specs.Words.{crcOf-lt}
 use Rattle.idmap.specs.Encode.{mapBytes}
-use Rattle.idmap.specs.Decode.{MapRead, Whole, Broken, mapOf}
-use Rattle.idmap.specs.Accepted.{Good, good}
+use Rattle.idmap.specs.Decode.{Whole, mapOf}
+use Rattle.idmap.specs.Accepted.{good}
 use Rattle.idmap.specs.Trip.{Words, read-back}
-use Rattle.vecseg.specs.Payload.{Line, lineOf, width, lineBad, firstOf, linesBad, columnsLength, filled, BlockRead, SoundBlock, BadBlock, blockEnd, blockMap, blockOf, blocksBad, blockCount, bodyBad, checkOf}
-use Rattle.vecseg.specs.Writer.{vecBad, vecBytes, blockBytes, padding, directory}
+use Rattle.vecseg.specs.Payload.{Line, lineOf, width, lineBad, firstOf, linesBad, columnsLength, filled, SoundBlock, blockEnd, blockMap, blockOf, blocksBad, blockCount, bodyBad, checkOf}
+use Rattle.vecseg.specs.Writer.{vecBad, vecBytes, blockBytes, padding}
 use Rattle.vec_write.specs.Refusal.{Accepted, accepted}
-use Rattle.vec_write.specs.Laid.{length-padding, length-block, length-payload}
+use Rattle.vec_write.specs.Laid.{length-block, length-payload}
 use Rattle.vec_trip.specs.MapBytes.{map-bytes}
 use Rattle.vec_trip.specs.Shape.{lineFor, one-block, line-is, block-at, fill-is}
 
@@ -39,8 +37,6 @@ end-sound : (front c p : List ℕ) (n : ℕ) → length front ≡ n → length c
     → blockEnd n ((front ++ c) ++ p) ≡ SoundBlock (round64 (n + 4))
 unfolding blockEnd filled
 end-sound front c p n e ec sum z =
-    let s : List ℕ = (front ++ c) ++ p in
-    let k : ℕ = round64 (n + 4) - (n + 4) in
     let g = round64-ge (n + 4) in
     let lf : length (front ++ c) ≡ n + 4 = length-append front c ∙ rw (e, ec) in
     let lp : length p ≡ round64 (n + 4) - (n + 4) = ap length z ∙ length-replicate (round64 (n + 4) - (n + 4)) 0 in

@@ -1,11 +1,11 @@
 -- What the vector writer's steps leave in the buffer: padding, directory, block, payload; and how long each is.
 -- Assumes nothing.
-use Prim.Native.Nat.{ℕ, zero, suc, _+_, _-_, _*_, _%_, _≤_, _<_}
-use mathlib.Core.Path.{_≡_, refl, sym, ap, _∙_}
-use mathlib.Core.List.{List, [], _∷_, _++_, append-assoc}
+use Prim.Native.Nat.{ℕ, _+_, _-_, _%_, _≤_, _<_}
+use mathlib.Core.Path.{_≡_, refl, sym, _∙_}
+use mathlib.Core.List.{List, _++_}
 use native.Mathlib.Nat.{zero-add}
 use native.Mathlib.Omega.{arith}
-use lib.ListN.{length, take, drop, replicate, length-append, length-take, length-drop, length-replicate}
+use lib.ListN.{length, take, drop, replicate, length-append, length-drop, length-replicate}
 use lib.Seq.{drop-drop, length-take-le}
 use borrow.Rule.Slice.PartMut.{putMid}
 use Rattle.octets.specs.Over.{over, over-then, over-at, length-over}
@@ -64,7 +64,6 @@ pub directory-laid : (buf b₁ b₂ b₃ b₄ b₅ b₆ b₇ : List ℕ) (count 
     → b₇ ≡ over buf 0 (directory count dim dtype tier ++ padding 16)
 unfolding directory leBytes
 directory-laid buf b₁ b₂ b₃ b₄ b₅ b₆ b₇ count dim dtype tier h hd ht p₁ p₂ p₃ p₄ p₅ p₆ p₇ =
-    let n₁ : length (leBytes 4 1) ≡ 4 = refl in
     let q₂ = p₂ ∙ over-then buf b₁ 0 (leBytes 4 1) (leBytes 4 64) 4 p₁ refl (omega arith) in
     let q₃ = p₃ ∙ over-then buf b₂ 0 _ (leBytes 4 count) 8 q₂ refl (omega arith) in
     let q₄ = p₄ ∙ over-then buf b₃ 0 _ (leBytes 2 dim) 12 q₃ refl (omega arith) in

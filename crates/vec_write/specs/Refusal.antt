@@ -1,6 +1,6 @@
 -- What the vector writer refuses, one law for each way out, and what is known of an input that it accepts.
 -- Assumes nothing.
-use Prim.Native.Nat.{ℕ, _+_, _*_, _≤_, _<_}
+use Prim.Native.Nat.{ℕ, _*_, _≤_, _<_}
 use mathlib.Core.Path.{_≡_, refl, sym, _∙_}
 use mathlib.Core.Bool.{Bool, true, false, cond, _&&_, _||_}
 use mathlib.Core.List.{List}
@@ -12,7 +12,7 @@ use borrow.Author.Tests.{le-leb, lt-leb, lt-ltb, le-ltb, eq-eqb, ne-eqb, leb-tru
 use Rattle.limits.specs.Limits.{maxDim}
 use Rattle.idmap.specs.Encode.{mapBad}
 use Rattle.idmap.specs.EncodeLaws.{and-true}
-use Rattle.idmap.specs.Accepted.{Good, good}
+use Rattle.idmap.specs.Accepted.{good}
 use Rattle.idmap_write.specs.Ways as map
 use Rattle.vecseg.specs.Payload.{width}
 use Rattle.vecseg.specs.Writer.{vecBad}

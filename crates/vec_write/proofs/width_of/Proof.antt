@@ -1,6 +1,6 @@
 -- `vec_write::width_of` meets its contract, dtype by dtype.
 -- Assumes nothing.
-use mathlib.Core.Path.{_≡_, refl}
+use mathlib.Core.Path.{refl}
 use native.Mathlib.Omega.{arith}
 use borrow.Author.Tests.{ne-eqb}
 use Rattle.vecseg.specs.Payload.{width}
