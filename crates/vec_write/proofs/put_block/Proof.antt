@@ -52,8 +52,14 @@ same-length c = search needs
 
 returns : tie.Need-returns
 returns c =
-    block-laid (c .before .before .before .before .before .before .before .before .before .before .before .before .before .before .before .before .before .before .before .before .before .args .buf .now) _ _ _ _ _ (c .before .before .before .before .before .before .before .before .before .before .before .before .before .before .before .before .before .before .before .before .before .pre .1 .0) (c .before .before .before .before .before .before .before .before .before .before .before .before .before .before .before .before .before .before .before .before .before .pre .1 .1)
-    (map-laid (c .before .before .before .before .before .before .before .before .before .before .before .before .before .before .before .before .before .before .before .before .before .args .buf .now) (c .before .before .before .before .before .before .before .before .before .before .before .before .before .before .before .before .copy .last .0) (c .before .before .before .before .before .before .before .before .before .before .before .before .put .last .0) _ _ _ (c .before .before .before .before .before .before .before .before .before .before .before .before .before .before .before .before .before .before .before .before .before .pre .1 .0) (c .before .before .before .before .before .before .before .before .before .before .before .before .before .before .before .before .before .before .before .before .before .pre .1 .1) (c .before .before .before .before .before .before .before .before .before .before .before .before .before .before .before .before .copy .ensures) (c .before .before .before .before .before .before .before .before .before .before .before .before .put .ensures)) (c .before .before .before .before .before .before .before .before .checksum .ensures) _ _ (c .before .before .before .before .before .before .put2 .ensures) (c .before .before .pad .ensures)
+    let w = c .before .before .before .before .before .before in
+    let k = w .before .before in
+    let m = k .before .before .before .before in
+    let o = m .before .before .before .before in
+    let s = o .before .before .before .before .before in
+    block-laid (s .args .buf .now) _ _ _ _ _ (s .pre .1 .0) (s .pre .1 .1)
+    (map-laid (s .args .buf .now) (o .copy .last .0) (m .put .last .0) _ _ _ (s .pre .1 .0) (s .pre .1 .1) (o .copy .ensures) (m .put .ensures)) (k .checksum .ensures) _ _
+    (w .put2 .ensures) (c .before .before .pad .ensures)
 
 pub put-block-spec : {M : Type 1} → statement M
 put-block-spec =

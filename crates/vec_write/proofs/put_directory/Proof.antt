@@ -34,8 +34,15 @@ same-length c = search needs
 
 returns : tie.Need-returns
 returns c =
-    directory-laid (c .before .before .before .before .before .before .before .before .before .before .before .before .before .before .before .before .before .before .before .before .before .before .before .before .before .before .before .before .before .args .buf .now) _ _ _ _ _ _ _ _ _ _ _ (c .before .before .before .before .before .before .before .before .before .before .before .before .before .before .before .before .before .before .before .before .before .before .before .before .before .before .before .before .before .pre .0) (c .before .before .before .before .before .before .before .before .before .before .before .before .before .before .before .before .before .before .before .before .before .before .before .before .before .before .before .before .before .pre .1 .0) (c .before .before .before .before .before .before .before .before .before .before .before .before .before .before .before .before .before .before .before .before .before .before .before .before .before .before .before .before .before .pre .1 .1) (c .before .before .before .before .before .before .before .before .before .before .before .before .before .before .before .before .before .before .before .before .before .before .before .before .before .before .put .ensures) (c .before .before .before .before .before .before .before .before .before .before .before .before .before .before .before .before .before .before .before .before .before .before .put2 .ensures) (c .before .before .before .before .before .before .before .before .before .before .before .before .before .before .before .before .before .before .put3 .ensures) (c .before .before .before .before .before .before .before .before .before .before .before .before .before .before .put4 .ensures)
-    (c .before .before .before .before .before .before .before .before .before .before .put5 .ensures) (c .before .before .before .before .before .before .put6 .ensures) (c .before .before .pad .ensures)
+    let p6 = c .before .before .before .before .before .before in
+    let p5 = p6 .before .before .before .before in
+    let p4 = p5 .before .before .before .before in
+    let p3 = p4 .before .before .before .before in
+    let p2 = p3 .before .before .before .before in
+    let p1 = p2 .before .before .before .before in
+    let s = p1 .before .before .before in
+    directory-laid (s .args .buf .now) _ _ _ _ _ _ _ _ _ _ _ (s .pre .0) (s .pre .1 .0) (s .pre .1 .1) (p1 .put .ensures) (p2 .put2 .ensures) (p3 .put3 .ensures)
+    (p4 .put4 .ensures) (p5 .put5 .ensures) (p6 .put6 .ensures) (c .before .before .pad .ensures)
 
 pub put-directory-spec : {M : Type 1} → statement M
 put-directory-spec =
