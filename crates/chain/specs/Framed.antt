@@ -31,12 +31,13 @@ module _ {S L : Type 0} (head : ℕ) (sizeAt : List ℕ → ℕ) (read : S → L
 
   module _ (size : L → ℕ) (after : S → L → S) (head-pos : 0 < head) (head-le : (h : List ℕ) → head ≤ sizeAt h)
       (size-is : (st : S) (x : List ℕ) (l : L) → length x ≡ sizeAt (take head x) → read st x ≡ some l → size l ≡ sizeAt (take head x)) where
-    record Passed (st : S) (s : List ℕ) (l : L) : Type 0 where
-      fits : size l ≤ length s
-      size-at : size l ≡ sizeAt (take head s)
-      reads : read st (take (size l) s) ≡ some l
+    -- what is known of a link at the front of some bytes
+    pub record Passed (st : S) (s : List ℕ) (l : L) : Type 0 where
+      pub fits : size l ≤ length s
+      pub size-at : size l ≡ sizeAt (take head s)
+      pub reads : read st (take (size l) s) ≡ some l
 
-    passed : {st : S} {s : List ℕ} {l : L} → framed st s ≡ some l → Passed st s l
+    pub passed : {st : S} {s : List ℕ} {l : L} → framed st s ≡ some l → Passed st s l
     unfolding framed
     passed {st} {s} {l} e =
         let a = cond-some (leb head (length s)) _ l e in

@@ -1,0 +1,6 @@
+-- Segments: the header's definitions, the laws that a chain of segments asks for, what is written, and that it is read back.
+pub mod Header
+pub mod Laws
+pub mod Readback
+pub mod Tests
+pub mod Written

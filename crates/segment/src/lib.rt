@@ -1,0 +1,1 @@
+// Segments of the file: a sound header, the link that it begins, and whether that link is whole.
