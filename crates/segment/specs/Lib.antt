@@ -2,5 +2,8 @@
 pub mod Header
 pub mod Laws
 pub mod Readback
+pub mod Step
+pub mod StepLaws
 pub mod Tests
+pub mod Ways
 pub mod Written

@@ -16,31 +16,7 @@ use Rattle.le.specs.Laws.{leOf-leBytes}
 use Rattle.chain.specs.Chain.{extend, Exact, done, more}
 use Rattle.chain.specs.Framed.{framed-whole}
 use Rattle.segment.specs.Tests.{all}
-use Rattle.segment.specs.Header.{
-  magic,
-  State,
-  Link,
-  reader,
-  read,
-  linkAt,
-  linkIn,
-  sizeAt,
-  size,
-  after,
-  sound,
-  headSound,
-  headTests,
-  typeHeld,
-  flagsHeld,
-  contentHash,
-  whole,
-  lengthIn,
-  idIn,
-  kindIn,
-  flagsIn,
-  timestampIn,
-  hashIn,
-}
+use Rattle.segment.specs.Header.{State, reader, read, linkAt, linkIn, sizeAt, size, sound, headSound, typeHeld, flagsHeld, contentHash, whole, lengthIn, idIn, kindIn, flagsIn, timestampIn, hashIn}
 use Rattle.segment.specs.Written.{headerOf, header, padding, segment, linkOf, header-length, segment-length}
 use Rattle.segment.specs.Laws.{segment-format}
 
