@@ -4,5 +4,6 @@ pub mod Boundary
 pub mod Chain
 pub mod Framed
 pub mod Last
+pub mod Places
 pub mod Search
 pub mod Walk
