@@ -4,6 +4,7 @@ pub mod Header
 pub mod Laws
 pub mod Places
 pub mod Readback
+pub mod Search
 pub mod Step
 pub mod StepLaws
 pub mod Tests

@@ -1,8 +1,8 @@
 -- What is written for a segment: the header, the payload, zeros to a multiple of 64; and the link that it is.
 -- Assumes nothing.
-use mathlib.Core.Path.{_≡_, refl}
+use mathlib.Core.Path.{_≡_, refl, ap}
 use mathlib.Core.List.{List, [], _∷_, _++_}
-use Prim.Native.Nat.{ℕ, _+_, _-_, _≤_}
+use Prim.Native.Nat.{ℕ, _+_, _-_, _*_, _/_, _%_, _≤_}
 use native.Mathlib.Omega.{arith}
 use lib.ListN.{length, replicate, length-append, length-replicate}
 use Rattle.octets.specs.Round.{round64, round64-ge}
@@ -60,3 +60,14 @@ pub link-length : (at kind flags id timestamp : ℕ) (payload : List ℕ)
     → length (segment kind flags id timestamp payload) ≡ size (linkOf at kind flags id timestamp payload)
 unfolding size linkOf
 link-length at kind flags id timestamp payload = segment-length kind flags id timestamp payload
+
+pub linkOf-size : (at kind flags id timestamp : ℕ) (payload : List ℕ) → size (linkOf at kind flags id timestamp payload) ≡ 64 + round64 (length payload)
+unfolding size linkOf
+linkOf-size at kind flags id timestamp payload = refl
+
+-- a payload of a multiple of 64 bytes has no padding
+pub padding-none : (payload : List ℕ) → length payload % 64 ≡ 0 → padding payload ≡ []
+unfolding padding round64
+padding-none payload h =
+    let e : (length payload + 63) / 64 * 64 - length payload ≡ 0 = omega arith in
+    ap (λ (n : ℕ). replicate n 0) e

@@ -1,19 +1,19 @@
 -- The steps of writing a segment: the header's fields laid over zeros; the header, the payload and the padding, each right behind the one before.
 -- Assumes nothing.
 use mathlib.Core.Path.{_≡_, refl, sym, ap, _∙_}
-use mathlib.Core.List.{List, [], _∷_, _++_, append-nil}
+use mathlib.Core.List.{List, [], _∷_, _++_, append-nil, append-assoc}
 use Prim.Native.Nat.{ℕ, _+_, _-_, _≤_}
 use native.Mathlib.Nat.{zero-add}
 use native.Mathlib.Omega.{arith}
 use lib.ListN.{length, take, drop, set, replicate, length-append, length-drop, length-replicate}
 use lib.Seq.{drop-drop, length-take-le}
 use borrow.Rule.Slice.PartMut.{putMid}
-use Rattle.octets.specs.Over.{over, length-over, over-then}
+use Rattle.octets.specs.Over.{over, length-over, over-then, over-next, over-swap}
 use Rattle.octets.specs.Parts.{back}
 use Rattle.octets.specs.Round.{round64, round64-ge}
 use Rattle.le.specs.Le.{leBytes}
 use Rattle.segment.specs.Header.{magic, contentHash}
-use Rattle.segment.specs.Written.{headerOf, header, padding, segment, header-length, segment-length}
+use Rattle.segment.specs.Written.{headerOf, header, padding, segment, headerOf-length, hash-length, header-length, segment-length}
 
 -- ---- the header
 
@@ -80,3 +80,17 @@ module _ (kind flags id timestamp : ℕ) (payload b0 : List ℕ) (room : 64 + ro
       mid b2 (64 + length payload) (64 + m - (64 + length payload)) z zl
       ∙ (rw zero-add at (over-then b0 b2 0 (head ++ payload) z (64 + length payload) p hp (omega arith)))
       ∙ ap (λ (x : List ℕ). over b0 0 (head ++ payload ++ x)) zs
+
+-- ---- a header before a payload that is already in place
+
+pub in-place : (kind flags id timestamp : ℕ) (payload b0 b1 : List ℕ) → 64 + round64 (length payload) ≤ length b0 → b1 ≡ over b0 64 (payload ++ padding payload)
+    → over b1 0 (headerOf kind flags id timestamp (length payload) (contentHash payload)) ≡ over b0 0 (segment kind flags id timestamp payload)
+unfolding segment header
+in-place kind flags id timestamp payload b0 b1 h p =
+    let head = headerOf kind flags id timestamp (length payload) (contentHash payload) in
+    let n : length head ≡ 64 = headerOf-length kind flags id timestamp (length payload) (contentHash payload) (hash-length payload) in
+    let e : 0 + length head ≡ 64 = omega arith in
+    ap (λ (b : List ℕ). over b 0 head) p
+    ∙ over-swap b0 0 head 64 (payload ++ padding payload) (omega arith) (omega arith)
+    ∙ (rw e at (over-next b0 0 head (payload ++ padding payload) (omega arith)))
+    ∙ ap (over b0 0) (sym (append-assoc head payload (padding payload)))
