@@ -16,7 +16,7 @@ use Rattle.le.specs.Le.{leOf, leAt}
 use Rattle.chain.specs.Chain.{Format, walk, afters, sizes}
 use Rattle.chain.specs.Framed.{framed-format, passed, cond-some}
 use Rattle.chain.specs.Walk.{walk-each}
-use Rattle.chain.specs.Boundary.{Aligned}
+use Rattle.chain.specs.Search.{Aligned}
 use Rattle.segment.specs.Tests.{all-at, both}
 use Rattle.segment.specs.Header.{Link, State, reader, read, linkAt, linkIn, sizeAt, size, after, sound, headSound, headTests, lengthIn, idIn, kindIn, flagsIn, timestampIn, hashIn}
 

@@ -1,6 +1,6 @@
 -- `segment::is_whole` meets its contract.
 -- Assumes nothing.
-use Rattle.segment.specs.StepLaws.{whole-by}
+use Rattle.segment.specs.Step.{whole-by}
 use borrow.Author.Needs.{needs}
 use Rattle.segment.proofs.is_whole.Statement.{statement}
 use Rattle.segment.proofs.is_whole.Tie as tie

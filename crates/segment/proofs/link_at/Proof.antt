@@ -4,7 +4,7 @@ use mathlib.Core.Path.{sym, _∙_}
 use native.Mathlib.Omega.{arith}
 use borrow.Author.Tests.{not-true, not-false}
 use Rattle.octets.specs.Round.{round64-ge}
-use Rattle.segment.specs.StepLaws.{step-short, step-cut, step-unsound, step-padding, step-sound}
+use Rattle.segment.specs.Step.{step-short, step-cut, step-unsound, step-padding, step-sound}
 use borrow.Author.Needs.{needs}
 use Rattle.segment.proofs.link_at.Statement.{statement}
 use Rattle.segment.proofs.link_at.Tie as tie
