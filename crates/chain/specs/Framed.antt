@@ -14,7 +14,7 @@ use lib.Seq.{length-take-le, take-take, take-at, take-length}
 use borrow.Author.Tests.{leb-true, le-leb, lt-leb}
 use Rattle.chain.specs.Chain.{Format}
 
--- what passed a test: the test, and what it guards
+-- what came through a test: the test, and what it guards
 pub cond-some : {A : Type 0} (b : Bool) (x : Option A) (a : A) → cond b x none ≡ some a → (b ≡ true) × (x ≡ some a)
 cond-some true x a e = (refl, e)
 cond-some false x a e = absurd (Option·some-ne-none a (sym e))
@@ -32,14 +32,14 @@ module _ {S L : Type 0} (head : ℕ) (sizeAt : List ℕ → ℕ) (read : S → L
   module _ (size : L → ℕ) (after : S → L → S) (head-pos : 0 < head) (head-le : (h : List ℕ) → head ≤ sizeAt h)
       (size-is : (st : S) (x : List ℕ) (l : L) → length x ≡ sizeAt (take head x) → read st x ≡ some l → size l ≡ sizeAt (take head x)) where
     -- what is known of a link at the front of some bytes
-    pub record Passed (st : S) (s : List ℕ) (l : L) : Type 0 where
+    pub record Framed (st : S) (s : List ℕ) (l : L) : Type 0 where
       pub fits : size l ≤ length s
       pub size-at : size l ≡ sizeAt (take head s)
       pub reads : read st (take (size l) s) ≡ some l
 
-    pub passed : {st : S} {s : List ℕ} {l : L} → framed st s ≡ some l → Passed st s l
+    pub framed-is : {st : S} {s : List ℕ} {l : L} → framed st s ≡ some l → Framed st s l
     unfolding framed
-    passed {st} {s} {l} e =
+    framed-is {st} {s} {l} e =
         let a = cond-some (leb head (length s)) _ l e in
         let b = cond-some (leb (sizeAt (take head s)) (length s)) _ l (a .1) in
         let n : sizeAt (take head s) ≤ length s = leb-true _ _ (b .0) in
@@ -49,10 +49,10 @@ module _ {S L : Type 0} (head : ℕ) (sizeAt : List ℕ → ℕ) (read : S → L
         record { fits = omega arith; size-at = z; reads = rw z (b .1) }
 
     pub framed-size : (st : S) (s : List ℕ) (l : L) → framed st s ≡ some l → size l ≡ sizeAt (take head s)
-    framed-size st s l e = let p : Passed st s l = passed e in p .size-at
+    framed-size st s l e = let p : Framed st s l = framed-is e in p .size-at
 
     -- bytes whose first ones are those of a link
-    starts : {st : S} {s : List ℕ} {l : L} → Passed st s l → (t : List ℕ) → size l ≤ length t → take (size l) t ≡ take (size l) s → framed st t ≡ some l
+    starts : {st : S} {s : List ℕ} {l : L} → Framed st s l → (t : List ℕ) → size l ≤ length t → take (size l) t ≡ take (size l) s → framed st t ≡ some l
     unfolding framed
     starts {st} {s} {l} p t h q =
         let hl : head ≤ size l = rw (p .size-at) (head-le (take head s)) in
@@ -61,7 +61,7 @@ module _ {S L : Type 0} (head : ℕ) (sizeAt : List ℕ → ℕ) (read : S → L
         rw (le-leb head (length t) (omega arith), z, le-leb (size l) (length t) h, q) (p .reads)
 
     -- fewer bytes than the link has
-    cut : {st : S} {s : List ℕ} {l : L} → Passed st s l → (k : ℕ) → k < size l → framed st (take k s) ≡ none
+    cut : {st : S} {s : List ℕ} {l : L} → Framed st s l → (k : ℕ) → k < size l → framed st (take k s) ≡ none
     unfolding framed
     cut {st} {s} {l} p k h =
         let n : length (take k s) ≡ k = let f : size l ≤ length s = p .fits in length-take-le k s (omega arith) in
@@ -79,10 +79,10 @@ module _ {S L : Type 0} (head : ℕ) (sizeAt : List ℕ → ℕ) (read : S → L
     framed-format =
         record {
           empty = none-at-end;
-          size-pos = λ {st} {s} {l} e. let p : Passed st s l = passed e in rw (p .size-at) (lt-of-lt-of-le head-pos (head-le (take head s)));
-          size-fits = λ e. passed e .fits;
+          size-pos = λ {st} {s} {l} e. let p : Framed st s l = framed-is e in rw (p .size-at) (lt-of-lt-of-le head-pos (head-le (take head s)));
+          size-fits = λ e. framed-is e .fits;
           local = λ {st} {s} {l} e r.
-              let n : length (take (size l) s) ≡ size l = length-take-le (size l) s (passed e .fits) in
-              starts (passed e) (take (size l) s ++ r) (simp length-append (omega arith)) (take-at (take (size l) s) r (size l) n);
-          short = λ e k h. cut (passed e) k h;
+              let n : length (take (size l) s) ≡ size l = length-take-le (size l) s (framed-is e .fits) in
+              starts (framed-is e) (take (size l) s ++ r) (simp length-append (omega arith)) (take-at (take (size l) s) r (size l) n);
+          short = λ e k h. cut (framed-is e) k h;
         }

@@ -14,7 +14,7 @@ use Rattle.octets.specs.Round.{round64, round64-ge, round64-mod}
 use Rattle.octets.specs.Parts.{part-front}
 use Rattle.le.specs.Le.{leOf, leAt}
 use Rattle.chain.specs.Chain.{Format, walk, afters, sizes}
-use Rattle.chain.specs.Framed.{framed-format, passed, cond-some}
+use Rattle.chain.specs.Framed.{framed-format, framed-is, cond-some}
 use Rattle.chain.specs.Walk.{walk-each}
 use Rattle.chain.specs.Search.{Aligned}
 use Rattle.segment.specs.Tests.{all-at, both}
@@ -110,7 +110,7 @@ link-front at s n h =
 pub lies : (st : State) (s : List ℕ) (l : Link) → linkAt st s ≡ some l → Lies st s l
 unfolding sizeAt size sound linkFront
 lies st s l e =
-    let p = passed 64 sizeAt read size after (lit< tt) at-least size-is e in
+    let p = framed-is 64 sizeAt read size after (lit< tt) at-least size-is e in
     let g : lengthIn (take 64 s) ≡ lengthIn s = number-front 8 0x10 s (omega arith) in
     let z : size l ≡ 64 + round64 (lengthIn s) = p .size-at ∙ ap (λ (n : ℕ). 64 + round64 n) g in
     let f : size l ≤ length s = p .fits in

@@ -60,9 +60,9 @@ unfolding headSound
 head-fails least h i e = sym (all-fails (headTests least h) i e)
 
 -- all but the last hold, and the last decides
-pub head-passes : (least : ℕ) (h : List ℕ) (r : Bool) → sameBytes (take 4 h) magic ≡ true → getD h 0x04 0 ≡ 1 → typeHeld (kindIn h) ≡ true
+pub head-holds : (least : ℕ) (h : List ℕ) (r : Bool) → sameBytes (take 4 h) magic ≡ true → getD h 0x04 0 ≡ 1 → typeHeld (kindIn h) ≡ true
     → flagsHeld (flagsIn h) ≡ true → getD h 0x20 0 ≡ 0 → allZero (take 7 (drop 0x21 h)) ≡ true → allZero (take 8 (drop 0x38 h)) ≡ true
     → r ≡ leb least (idIn h) → r ≡ headSound least h
 unfolding headSound all
-head-passes least h r magic-is version kind flags algo middle last id =
+head-holds least h r magic-is version kind flags algo middle last id =
     id ∙ rw (magic-is, version, kind, flags, algo, middle, last) (sym (and-true (leb least (idIn h))))

@@ -56,15 +56,8 @@ pub fn put_segment(
     let body = 64;
     let padding = body + len;
     let end = body + octets::round_up(len);
-    put_header(
-        &mut *buf,
-        kind,
-        flags,
-        id,
-        timestamp,
-        len,
-        segment::content_hash(payload),
-    );
+    let hash = segment::content_hash(payload);
+    put_header(&mut *buf, kind, flags, id, timestamp, len, hash);
     octets::copy(&mut buf[body..], payload);
     octets::clear(&mut buf[padding..end]);
     end

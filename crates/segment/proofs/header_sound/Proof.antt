@@ -7,7 +7,7 @@ use lib.Seq.{length-take-le}
 use borrow.Author.Tests.{not-true, not-false, ne-eqb}
 use Rattle.segment.specs.Header.{flagsHeld}
 use Rattle.segment.specs.Step.{leastId}
-use Rattle.segment.specs.Ways.{head-fails, head-passes}
+use Rattle.segment.specs.Ways.{head-fails, head-holds}
 use borrow.Author.Needs.{needs}
 use Rattle.segment.proofs.header_sound.Statement.{statement}
 use Rattle.segment.proofs.header_sound.Tie as tie
@@ -92,7 +92,7 @@ id-above-requires c κs = search needs
 
 returns-8 : tie.Need-returns-8
 returns-8 c =
-    head-passes _ _ _
+    head-holds _ _ _
     (sym (c .before .before .before .before .before .before .before .before .before .before .before .before .before .before .before .before .before .before .before .same .ensures) ∙ not-false _ (c .before .before .before .before .before .before .before .before .before .before .before .before .before .before .before .before .before .before .if1 .left))
     (c .before .before .before .before .before .before .before .before .before .before .before .before .before .before .before .before .if2 .left)
     (sym (c .before .before .before .before .before .before .before .before .before .before .before .before .before .before .kind-held .ensures) ∙ not-false _ (c .before .before .before .before .before .before .before .before .before .before .before .before .before .if3 .left))

@@ -54,7 +54,7 @@ returns : tie.Need-returns
 returns c = (
   segment-size _ _ _ _ _ _ (c .before .before .before .before .before .before .before .before .before .before .before .before .before .round-up .ensures),
   padding-laid _ _ _ _ _ _ (c .before .before .before .before .before .before .before .before .before .before .before .before .before .before .before .before .pre) _ _ _ (c .before .before .before .before .before .before .before .before .before .before .before .before .before .round-up .ensures)
-      (payload-laid _ _ _ _ _ _ (c .before .before .before .before .before .before .before .before .before .before .before .before .before .before .before .before .pre) _ _ _ (c .before .before .before .before .before .before .before .before .before .before .before .content-hash .ensures) (c .before .before .before .before .before .before .before .before .before .before .put-header .ensures) (c .before .before .before .before .before .before .copy .ensures))
+      (payload-laid _ _ _ _ _ _ (c .before .before .before .before .before .before .before .before .before .before .before .before .before .before .before .before .pre) _ _ _ (c .before .before .before .before .before .before .before .before .before .before .before .before .content-hash .ensures) (c .before .before .before .before .before .before .before .before .before .before .put-header .ensures) (c .before .before .before .before .before .before .copy .ensures))
       (c .before .before .clear .ensures),
 )
 
