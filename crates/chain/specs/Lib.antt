@@ -1,0 +1,8 @@
+-- Chains of links, for any format of a link: the walk, links with a head that gives their size, the last confirmed link, walking by a loop, the places
+-- of links, and searching from the end.
+pub mod Chain
+pub mod Framed
+pub mod Last
+pub mod Places
+pub mod Search
+pub mod Walk

@@ -1,0 +1,1 @@
+// Chains of links: definitions and laws only, in specs/.

@@ -1,0 +1,68 @@
+-- The ways out of the tests on a header, each with its law.
+-- Assumes nothing.
+use mathlib.Core.Path.{_≡_, refl, sym, _∙_}
+use mathlib.Core.Bool.{Bool, true, false, _&&_}
+use mathlib.Core.List.{List}
+use Prim.Native.Nat.{ℕ, _+_, _-_, _≤_, _<_}
+use native.Mathlib.Omega.{arith}
+use lib.Dec.{leb, ltb}
+use lib.ListN.{take, drop, getD, replicate}
+use borrow.Author.Tests.{lt-leb, le-leb, ltb-true, ltb-false}
+use Rattle.octets.specs.Over.{over}
+use Rattle.octets.specs.Zero.{allZero, sameBytes}
+use Rattle.le.specs.Le.{leBytes}
+use Rattle.crc32c.specs.Crc.{crcOf}
+use Rattle.segment.specs.Tests.{all, all-fails}
+use Rattle.segment.specs.Header.{magic, typeHeld, flagsHeld, headSound, headTests, kindIn, flagsIn, idIn, contentHash}
+use Rattle.segment.specs.Step.{leastId}
+
+and-true : (t : Bool) → t && true ≡ t
+and-true true = refl
+and-true false = refl
+
+-- ---- types
+
+pub kind-low : (t : ℕ) → t < 1 → false ≡ typeHeld t
+unfolding typeHeld
+kind-low t h = rw (lt-leb 0x01 t h, lt-leb 0xF0 t (omega arith))
+
+pub kind-named : (t : ℕ) → 1 ≤ t → t ≤ 0x0C → true ≡ typeHeld t
+unfolding typeHeld
+kind-named t h k = rw (le-leb 0x01 t h, le-leb t 0x0C k)
+
+pub kind-extension : (t : ℕ) → 0x0C < t → t < 256 → leb 0xF0 t ≡ typeHeld t
+unfolding typeHeld
+kind-extension t h k = rw (le-leb 0x01 t (omega arith), lt-leb t 0x0C h, le-leb t 0xFF (omega arith)) (sym (and-true (leb 0xF0 t)))
+
+-- ---- ids
+
+pub above-first : (first : Bool) (prev id : ℕ) → first ≡ true → true ≡ leb (leastId first prev) id
+above-first first prev id e = rw e (sym (le-leb 0 id (omega arith)))
+
+pub above-next : (first : Bool) (prev id : ℕ) → first ≡ false → ltb prev id ≡ leb (leastId first prev) id
+above-next first prev id e = rw e (go (ltb prev id) refl)
+  where
+    go : (t : Bool) → ltb prev id ≡ t → t ≡ leb (prev + 1) id
+    go true h = let k : prev < id = ltb-true prev id h in sym (le-leb (prev + 1) id (omega arith))
+    go false h = let k : id ≤ prev = ltb-false prev id h in sym (lt-leb (prev + 1) id (omega arith))
+
+-- ---- the content hash, laid over zeros
+
+pub hash-laid : (payload hash : List ℕ) (sum : ℕ) → sum ≡ crcOf payload → hash ≡ over (replicate 16 0) 0 (leBytes 4 sum) → hash ≡ contentHash payload
+unfolding contentHash over leBytes
+hash-laid payload hash sum e p = p ∙ rw e
+
+-- ---- a header's own bytes
+
+-- a test fails
+pub head-fails : (least : ℕ) (h : List ℕ) (i : ℕ) → getD (headTests least h) i true ≡ false → false ≡ headSound least h
+unfolding headSound
+head-fails least h i e = sym (all-fails (headTests least h) i e)
+
+-- all but the last hold, and the last decides
+pub head-holds : (least : ℕ) (h : List ℕ) (r : Bool) → sameBytes (take 4 h) magic ≡ true → getD h 0x04 0 ≡ 1 → typeHeld (kindIn h) ≡ true
+    → flagsHeld (flagsIn h) ≡ true → getD h 0x20 0 ≡ 0 → allZero (take 7 (drop 0x21 h)) ≡ true → allZero (take 8 (drop 0x38 h)) ≡ true
+    → r ≡ leb least (idIn h) → r ≡ headSound least h
+unfolding headSound all
+head-holds least h r magic-is version kind flags algo middle last id =
+    id ∙ rw (magic-is, version, kind, flags, algo, middle, last) (sym (and-true (leb least (idIn h))))

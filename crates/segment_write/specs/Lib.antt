@@ -1,0 +1,2 @@
+-- The steps of writing a segment.
+pub mod Laid
