@@ -1,2 +1,3 @@
 // The exported calls. Each decides nothing: it calls the function below it, returns the number of a refusal or 0, and lays the values into `out`.
 mod leaves;
+mod payloads;
