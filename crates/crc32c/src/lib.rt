@@ -130,12 +130,21 @@ fn rest(c: u64, s: &[u8], at: usize) -> u64
     x
 }
 
-// The register after a slice, in four lanes, each of which takes in every fourth word.
-// None waits for another, until the last four words bring them together.
-fn lanes(c: u64, s: &[u8]) -> u64
-    requires { ⌜ 32 ≤ length (now s) ⌝ }
-    ensures { λ r. ⌜ r ≡ crcFrom c (now (s .entry)) ⌝ }
+// A register, and the place from which the rest of a slice is still to be taken in.
+struct Entered {
+    register: u64,
+    at: usize,
+}
+
+// The register after most of a slice, in four lanes, each of which takes in every fourth word. None waits for another, until the last
+// four words bring them together. What is too short for that is left whole. It is handed back where to go on, and does not go on itself:
+// so `rest` has one caller, and all of it is compiled into one function.
+fn lanes(c: u64, s: &[u8]) -> Entered
+    ensures { λ r. ⌜ (crcFrom (r .register) (drop (r .at) (now (s .entry))) ≡ crcFrom c (now (s .entry))) × (r .at ≤ length (now (s .entry))) ⌝ }
 {
+    if s.len() < 64 {
+        return Entered { register: c, at: 0 };
+    }
     let mut a = c;
     let mut b: u64 = 0;
     let mut d: u64 = 0;
@@ -151,15 +160,18 @@ fn lanes(c: u64, s: &[u8]) -> u64
     let x = fold(a ^ word_at(s, i));
     let y = fold(x ^ b ^ word_at(s, i + 8));
     let z = fold(y ^ d ^ word_at(s, i + 16));
-    rest(z ^ e, s, i + 24)
+    Entered {
+        register: z ^ e,
+        at: i + 24,
+    }
 }
 
 // The CRC32C of a slice.
 pub fn checksum(data: &[u8]) -> u32
     ensures { λ r. ⌜ r ≡ crcOf (now («data» .entry)) ⌝ }
 {
-    if data.len() < 64 {
-        return (rest(0xFFFF_FFFF, data, 0) ^ 0xFFFF_FFFF) as u32;
-    }
-    (lanes(0xFFFF_FFFF, data) ^ 0xFFFF_FFFF) as u32
+    let entered = lanes(0xFFFF_FFFF, data);
+    let register = entered.register;
+    let at = entered.at;
+    (rest(register, data, at) ^ 0xFFFF_FFFF) as u32
 }
