@@ -17,3 +17,11 @@ maxBlocks = 64
 -- values of a vector
 abbrev pub maxDim : ℕ
 maxDim = 1024
+
+-- bytes of a file
+abbrev pub maxFile : ℕ
+maxFile = 16777216
+
+-- entries of a directory
+abbrev pub maxEntries : ℕ
+maxEntries = 1024

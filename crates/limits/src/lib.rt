@@ -7,3 +7,7 @@ pub const DEFAULT_INTERVAL: u64 = 64;
 pub const MAX_BLOCKS: usize = 64;
 // Values of a vector: 1 to this.
 pub const MAX_DIM: usize = 1024;
+// Bytes of a file: 0 to this.
+pub const MAX_FILE: usize = 16777216;
+// Entries of a directory: 0 to this.
+pub const MAX_ENTRIES: usize = 1024;

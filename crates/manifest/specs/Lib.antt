@@ -1,0 +1,3 @@
+-- Manifests: the payload's form, confirmation, and what opening finds.
+pub mod Payload
+pub mod Opening
