@@ -29,7 +29,7 @@ states r = statesIn (length (r .before)) (drop 8 (r .link .payload))
 -- offset, end, id, c and the boundaries tried; or 2 with the boundaries tried
 unfoldable pub openFound : List ℕ → Option (Found Link) → Answer
 openFound f none = Refusal 2 (tried f none ∷ [])
-openFound f (some r) = Accepted (r .link .offset ∷ r .link .offset + size (r .link) ∷ r .link .id ∷ length (r .before) ∷ tried f (some r) ∷ [])
+openFound f (some r) = Accepted (r .link .offset ∷ (r .link .offset + size (r .link)) ∷ r .link .id ∷ length (r .before) ∷ tried f (some r) ∷ [])
 
 -- 1 for a file above the limit, then what is found
 unfoldable pub openAnswer : List ℕ → Answer
