@@ -5,6 +5,9 @@
  * A slice is a pointer and a length in elements; for length 0 the pointer must still not be null.
  *
  *   5  layout, id map or varint breaks a rule
+ *   6  dtype not held
+ *   7  block checksum differs
+ *   8  no such vector
  *   9  lent buffer too short
  *  14  writer's input breaks a rule
  */
@@ -34,6 +37,22 @@ uint32_t rvf_idmap_read(const uint8_t *bytes, size_t len, uint64_t count, uint64
 /* The id map of ids that rise strictly, 1 to 4,096 of them, at the front of a buffer. encoding: 0 raw
  * (interval 0), 1 delta (interval up to 65,535; 0 means 64). out: length. Refuses 14, then 9. */
 uint32_t rvf_idmap_write(uint8_t *buffer, size_t len, const uint64_t *ids, size_t ids_len, uint64_t encoding, uint64_t interval, uint64_t out[1]);
+
+/* The check of a VEC_SEG payload: 0 where it is sound, else 5, 6 or 7, the first in the check's order. */
+uint32_t rvf_vec_check(const uint8_t *payload, size_t len);
+
+/* A VEC_SEG payload of one block at the front of a buffer. columns: all values of dimension 0, then of
+ * dimension 1, ..., count x dim values in all; dtype: 0 f32, 3 i8, 4 u8; ids, encoding and interval as for
+ * rvf_idmap_write. out: length. Refuses 14, then 9. */
+uint32_t rvf_vec_write(uint8_t *buffer, size_t len, const uint64_t *ids, size_t ids_len, const uint8_t *columns,
+                       size_t columns_len, uint64_t dim, uint64_t dtype, uint64_t tier, uint64_t encoding,
+                       uint64_t interval, uint64_t out[1]);
+
+/* A vector by its id out of a VEC_SEG payload, which is checked whole first; the last block that holds the id
+ * answers. Writes the vector's bytes in dimension order to the front of the buffer. out: dim, dtype, length
+ * written. Refuses 5, 6 or 7, then 8, then 9. */
+uint32_t rvf_vec_read(const uint8_t *payload, size_t len, uint64_t id, uint8_t *buffer, size_t buffer_len,
+                      uint64_t out[3]);
 
 #ifdef __cplusplus
 }

@@ -53,6 +53,10 @@ pub trait Calls {
     fn vec_write(&self, buffer: &mut [u8], input: &VecInput, out: &mut [u64; 1]) -> u32 {
         absent()
     }
+    /// A vector by its id out of a payload alone: dim, dtype, length.
+    fn vec_read(&self, payload: &[u8], id: u64, buffer: &mut [u8], out: &mut [u64; 3]) -> u32 {
+        absent()
+    }
     fn open(&self, file: &[u8], out: &mut [u64; 5]) -> u32 {
         absent()
     }
@@ -119,6 +123,15 @@ impl Calls for Reference {
 
     fn vec_check(&self, payload: &[u8]) -> u32 {
         vecseg::check(payload).err().unwrap_or(0)
+    }
+
+    fn vec_read(&self, payload: &[u8], id: u64, buffer: &mut [u8], out: &mut [u64; 3]) -> u32 {
+        let found = vecseg::check(payload).and_then(|()| vecseg::find(payload, id).ok_or(refusal::NO_VECTOR));
+        let values = found.and_then(|place| {
+            let length = vecseg::vector(payload, place, buffer)?;
+            Ok([place.line.dim as u64, place.line.dtype as u64, length as u64])
+        });
+        put(values, out)
     }
 
     fn vec_write(&self, buffer: &mut [u8], input: &VecInput, out: &mut [u64; 1]) -> u32 {

@@ -35,6 +35,14 @@ extern "C" {
 #[cfg(feature = "vec")]
 extern "C" {
     fn rvf_vec_check(payload: *const u8, payload_len: usize) -> u32;
+    fn rvf_vec_read(
+        payload: *const u8,
+        payload_len: usize,
+        id: u64,
+        buffer: *mut u8,
+        buffer_len: usize,
+        out: *mut [u64; 3],
+    ) -> u32;
     fn rvf_vec_write(
         buffer: *mut u8,
         buffer_len: usize,
@@ -132,6 +140,12 @@ impl Calls for Library {
     #[cfg(feature = "vec")]
     fn vec_check(&self, payload: &[u8]) -> u32 {
         unsafe { rvf_vec_check(payload.as_ptr(), payload.len()) }
+    }
+
+    #[cfg(feature = "vec")]
+    fn vec_read(&self, payload: &[u8], id: u64, buffer: &mut [u8], out: &mut [u64; 3]) -> u32 {
+        let (at, room) = (buffer.as_mut_ptr(), buffer.len());
+        unsafe { rvf_vec_read(payload.as_ptr(), payload.len(), id, at, room, out) }
     }
 
     #[cfg(feature = "vec")]

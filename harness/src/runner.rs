@@ -112,6 +112,10 @@ pub fn vec_write(calls: &dyn Calls, room: usize, input: &VecInput) -> Outcome<1>
     writing(room, |out| out[0], |buffer, out| calls.vec_write(buffer, input, out))
 }
 
+pub fn vec_read(calls: &dyn Calls, payload: &[u8], id: u64, room: usize) -> Outcome<3> {
+    writing(room, |out| out[2], |buffer, out| calls.vec_read(payload, id, buffer, out))
+}
+
 /// Opening's 2 sets the boundaries tried and nothing else.
 pub fn open(calls: &dyn Calls, file: &[u8]) -> Outcome<5> {
     reading(|number, at| number != 2 || at != 4, |out| calls.open(file, out))

@@ -186,3 +186,47 @@ fn wrong_input_comes_before_room() {
         }
     }
 }
+
+/// Every id of a payload and its neighbours, in rooms that are exactly long enough, one short and more; damaged payloads too.
+#[test]
+fn vectors_by_id() {
+    let mut rng = Rng::new(207);
+    let mut seen = [0usize; 10];
+    for _ in 0..20_000 {
+        let payload = payloads::payload(&mut rng);
+        for _ in 0..4 {
+            // Ids that stand somewhere in the bytes are likelier to be in a map.
+            let at = rng.below(payload.len() + 1);
+            let mut eight = [0; 8];
+            let held = payload.len().saturating_sub(at).min(8);
+            eight[..held].copy_from_slice(&payload[at..at + held]);
+            let wide = u64::from_le_bytes(eight);
+            let id = [wide, wide & 0xFF, wide & 0x7F, wide % 1_000][rng.below(4)];
+            let room = rng.below(300);
+            let (ours, theirs) = (runner::vec_read(&Library, &payload, id, room), runner::vec_read(&Reference, &payload, id, room));
+            assert!(ours == theirs && ours.fault.is_none(), "vec_read of {id} in {}:\n library   {ours:?}\n reference {theirs:?}", hex(&payload));
+            seen[theirs.number as usize] += 1;
+        }
+    }
+    for _ in 0..3_000 {
+        let draft = draft_of((0..1 + rng.below(3)).map(|_| payloads::block(&mut rng, true)).collect());
+        let payload = draft.bytes();
+        if Reference.vec_check(&payload) != 0 {
+            continue;
+        }
+        for block in &draft.blocks {
+            let mut ids = vec![0; block.count as usize];
+            assert_eq!(Reference.idmap_read(&block.map, block.count as u64, &mut ids, &mut [0]), 0);
+            for &id in ids.iter().take(12) {
+                let exact = runner::vec_read(&Reference, &payload, id, 8_192);
+                let length = exact.written.len();
+                for (id, room) in [(id, length), (id, length.saturating_sub(1)), (id, length + 3), (id ^ 1, length)] {
+                    let (ours, theirs) = (runner::vec_read(&Library, &payload, id, room), runner::vec_read(&Reference, &payload, id, room));
+                    assert!(ours == theirs && ours.fault.is_none(), "vec_read of {id} in {}:\n library   {ours:?}\n reference {theirs:?}", hex(&payload));
+                    seen[theirs.number as usize] += 1;
+                }
+            }
+        }
+    }
+    assert!([0, 5, 6, 7, 8, 9].iter().all(|&number| seen[number] > 500), "{seen:?}");
+}

@@ -4,7 +4,9 @@ ghost use Rattle.answers.specs.Answer.{number, outOf};
 ghost use Rattle.answers.specs.Write.{wroteAnswer, writeAnswer, writeBuffer};
 ghost use Rattle.vecseg.specs.Payload.{checkOf};
 ghost use Rattle.vecseg.specs.Writer.{vecBad, vecBytes};
+ghost use Rattle.vec_get.specs.Vector.{vectorAnswer, vectorIn, vectorBuffer};
 use answers::Wrote;
+use vec_get::Vector;
 
 // The check of a payload: 5, 6, 7, or 0 where it is sound.
 #[no_mangle]
@@ -36,6 +38,30 @@ pub extern "C" fn rvf_vec_write(
         Wrote::Refused(e) => e,
         Wrote::Length(length) => {
             out[0] = length as u64;
+            0
+        }
+    }
+}
+
+// A vector by its id out of a payload, which is checked whole first: dim, dtype and the length written; or 5, 6, 7, then 8, then 9.
+#[no_mangle]
+pub extern "C" fn rvf_vec_read(
+    payload: &[u8],
+    id: u64,
+    buffer: &mut [u8],
+    out: &mut [u64; 3],
+) -> u32
+    ensures { λ r. ⌜ r ≡ number (vectorAnswer (vectorIn (now (payload .entry)) id (now (buffer .entry)))) ⌝ }
+    ensures { λ _. ⌜ now (buffer .exit) ≡ vectorBuffer (now (payload .entry)) id (now (buffer .entry)) ⌝ }
+    ensures { λ _. ⌜ now (out .exit) ≡ outOf (now (out .entry)) (vectorAnswer (vectorIn (now (payload .entry)) id (now (buffer .entry)))) ⌝ }
+{
+    let v = vec_get::read(payload, id, buffer);
+    match v {
+        Vector::Refused(e) => e,
+        Vector::Read { dim, dtype, length } => {
+            out[0] = dim as u64;
+            out[1] = dtype as u64;
+            out[2] = length as u64;
             0
         }
     }

@@ -1,5 +1,5 @@
 //! The lines for VEC_SEG payloads: the check of a 1 MiB payload, the writer on 4,096
-//! vectors of 64 f32.
+//! vectors of 64 f32, and one of these vectors by its id.
 
 use crate::{line, Unit};
 use rvf_harness::calls::{Calls, Reference, VecInput};
@@ -40,6 +40,30 @@ fn their_write(buffer: &mut [u8], input: &VecInput, out: &mut [u64; 1]) -> u32 {
     Reference.vec_write(buffer, input, out)
 }
 
+#[inline(never)]
+fn their_read(payload: &[u8], id: u64, buffer: &mut [u8], out: &mut [u64; 3]) -> u32 {
+    Reference.vec_read(payload, id, buffer, out)
+}
+
+/// One vector by its id, the check of the payload included on both sides.
+fn read_line(name: &str, payload: &[u8], id: u64) {
+    let (mut buffer_a, mut buffer_b) = ([0; 256], [0; 256]);
+    line(
+        name,
+        Unit::Ns(1),
+        || {
+            let mut out = [0; 3];
+            assert_eq!(Library.vec_read(black_box(payload), black_box(id), &mut buffer_a, &mut out), 0);
+            black_box((out, &buffer_a));
+        },
+        || {
+            let mut out = [0; 3];
+            assert_eq!(their_read(black_box(payload), black_box(id), &mut buffer_b, &mut out), 0);
+            black_box((out, &buffer_b));
+        },
+    );
+}
+
 pub fn lines() {
     let mut rng = Rng::new(4);
     // 4,096 vectors of 64 f32 are 1 MiB of columns.
@@ -74,4 +98,12 @@ pub fn lines() {
             black_box(out);
         },
     );
+    let mut out = [0];
+    assert_eq!(Reference.vec_write(&mut buffer_a, &input, &mut out), 0);
+    let written = &buffer_a[..out[0] as usize];
+    read_line("vec_read_64_f32_of_4096", written, input.ids[2_000]);
+    // A small payload, where the search and the gathering show beside the checksum.
+    let small = self::payload(&mut rng, 16, 1_000);
+    let ids = (1_000..).find(|&id| Reference.vec_read(&small, id, &mut [0; 256], &mut [0; 3]) == 0);
+    read_line("vec_read_64_f32_of_16", &small, ids.expect("an id of the payload"));
 }

@@ -1,0 +1,2 @@
+-- A vector by its id out of a payload.
+pub mod Vector

@@ -1,0 +1,124 @@
+-- A vector by its id out of a payload: the payload is checked whole first, 5, 6 or 7; then 8 where no block holds the id;
+-- then 9 where the buffer is short; else the vector's bytes at the buffer's front.
+-- Assumes nothing.
+use Prim.Native.Nat.{ℕ, zero, suc, _+_, _*_, _≤_, _<_}
+use mathlib.Core.Path.{_≡_, refl, sym, ap, _∙_}
+use mathlib.Core.Bool.{cond}
+use mathlib.Core.Option.{Option, none, some}
+use mathlib.Core.List.{List, [], _∷_}
+use native.Mathlib.Omega.{arith}
+use lib.Dec.{eqb, leb}
+use lib.ListN.{length}
+use borrow.Author.Tests.{eq-eqb, ne-eqb}
+use Rattle.answers.specs.Answer.{Answer, Accepted, Refusal}
+use Rattle.answers.specs.Write.{writeAnswer, writeBuffer}
+use Rattle.answers.specs.declared.Wrote.{Wrote}
+use Rattle.answers.specs.declared.Wrote.the-variants.{Length, Refused as WroteRefused}
+use Rattle.vecseg.specs.Payload.{Line, checkOf, width, columnsLength}
+use Rattle.vecseg.specs.LineLaws.{width-most}
+use Rattle.vecseg.specs.Find.{Place, findIn, vectorOf}
+use Rattle.vecseg.specs.FindLaws.{PlaceGood, found-good}
+use Rattle.vec_find.specs.Found.{foundOf}
+use Rattle.vec_find.specs.declared.Found.{Found}
+use Rattle.vec_find.specs.declared.Found.the-variants.{At, Missing as NotFound}
+use Rattle.vec_read.specs.Vector.{placeWith, vector-with, Bounds}
+use Rattle.vec_get.specs.declared.Vector.{Vector}
+use Rattle.vec_get.specs.declared.Vector.the-variants.{Read, Refused}
+
+-- document 01's number and values for each case
+abbrev pub vectorAnswer : Vector → Answer
+vectorAnswer (Read dim dtype n) = Accepted (dim ∷ dtype ∷ n ∷ [])
+vectorAnswer (Refused e) = Refusal e []
+
+-- a found vector: dim, dtype and the length written, or 9
+unfoldable pub readOf : Place → Wrote → Vector
+readOf p (Length n) = Read (p .line .dim) (p .line .dtype) n
+readOf p (WroteRefused e) = Refused e
+
+unfoldable pub placedOf : List ℕ → Option Place → List ℕ → Vector
+placedOf s none buf = Refused 8
+placedOf s (some p) buf = readOf p (writeAnswer 0 (vectorOf s p) buf)
+
+unfoldable pub vectorIn : List ℕ → ℕ → List ℕ → Vector
+vectorIn s id buf = cond (eqb (checkOf s) 0) (placedOf s (findIn s id) buf) (Refused (checkOf s))
+
+-- the buffer after it: a refusal leaves it as it was
+unfoldable pub placedBuffer : List ℕ → Option Place → List ℕ → List ℕ
+placedBuffer s none buf = buf
+placedBuffer s (some p) buf = writeBuffer 0 (vectorOf s p) buf
+
+unfoldable pub vectorBuffer : List ℕ → ℕ → List ℕ → List ℕ
+vectorBuffer s id buf = cond (eqb (checkOf s) 0) (placedBuffer s (findIn s id) buf) buf
+
+-- ---- the ways out
+
+module _ (s : List ℕ) (id : ℕ) (buf : List ℕ) where
+  pub get-bad : (e : ℕ) → e ≡ checkOf s → (e ≡ 0 → ⊥) → (Refused e ≡ vectorIn s id buf) × (buf ≡ vectorBuffer s id buf)
+  unfolding vectorIn vectorBuffer
+  get-bad e p nz = rw (← p, ne-eqb e 0 nz) (refl, refl)
+
+  module _ (ok : checkOf s ≡ 0) where
+    none-found : (o : Option Place) → foundOf o ≡ NotFound → o ≡ none
+    unfolding foundOf
+    none-found none e = refl
+    none-found (some p) e = absurd (let z : _≡_ {A = ℕ} 0 1 = cc in omega arith)
+
+    pub get-missing : foundOf (findIn s id) ≡ NotFound → (Refused 8 ≡ vectorIn s id buf) × (buf ≡ vectorBuffer s id buf)
+    unfolding vectorIn vectorBuffer placedOf placedBuffer
+    get-missing e = rw (ok, none-found (findIn s id) e) (refl, refl)
+
+    module _ (offset count dim dtype index : ℕ) (e : foundOf (findIn s id) ≡ At offset count dim dtype index) where
+      record Found′ : Type 0 where
+        place : Place
+        found : findIn s id ≡ some place
+        offset-is : place .line .offset ≡ offset
+        count-is : place .line .count ≡ count
+        dim-is : place .line .dim ≡ dim
+        dtype-is : place .line .dtype ≡ dtype
+        index-is : place .index ≡ index
+
+      found : Found′
+      unfolding foundOf
+      found = pick (findIn s id) refl e
+        where
+          pick : (o : Option Place) → findIn s id ≡ o → foundOf o ≡ At offset count dim dtype index → Found′
+          pick none p q = absurd (let z : _≡_ {A = ℕ} 0 1 = cc in omega arith)
+          pick (some w) p q = record { place = w; found = p; offset-is = cc; count-is = cc; dim-is = cc; dtype-is = cc; index-is = cc }
+
+      pub get-bounds : Bounds (length s) offset count dim (width dtype) index
+      unfolding columnsLength
+      get-bounds =
+          let w = found in
+          let g = found-good s ok id (w .place) (w .found) in
+          let c : w .place .line .count * w .place .line .dim * width (w .place .line .dtype) ≡ count * dim * width dtype = rw (w .count-is, w .dim-is, w .dtype-is) in
+          record {
+            most = omega (arith, g .line .most, w .count-is);
+            few = omega (arith, g .line .few, w .dim-is);
+            small = width-most dtype;
+            room = omega (arith, g .room, w .offset-is, c);
+            index-in = omega (arith, g .index-in, w .index-is, w .count-is);
+          }
+
+      same-vector : vectorOf s (placeWith offset count dim dtype index) ≡ vectorOf s (found .place)
+      same-vector =
+          let w = found in
+          sym (vector-with s (w .place) ∙ rw (w .offset-is, w .count-is, w .dim-is, w .dtype-is, w .index-is))
+
+      to-place : (vectorIn s id buf ≡ readOf (found .place) (writeAnswer 0 (vectorOf s (found .place)) buf)) × (vectorBuffer s id buf ≡ writeBuffer 0 (vectorOf s (found .place)) buf)
+      unfolding vectorIn vectorBuffer placedOf placedBuffer
+      to-place = rw (ok, found .found) (refl, refl)
+
+      pub get-short : (n : ℕ) (exit : List ℕ) → writeAnswer 0 (vectorOf s (placeWith offset count dim dtype index)) buf ≡ WroteRefused n
+          → exit ≡ writeBuffer 0 (vectorOf s (placeWith offset count dim dtype index)) buf → (Refused n ≡ vectorIn s id buf) × (exit ≡ vectorBuffer s id buf)
+      unfolding readOf
+      get-short n exit p q =
+          let a : writeAnswer 0 (vectorOf s (found .place)) buf ≡ WroteRefused n = rw same-vector at p in
+          (sym (to-place .0 ∙ ap (readOf (found .place)) a), q ∙ ap (λ (v : List ℕ). writeBuffer 0 v buf) same-vector ∙ sym (to-place .1))
+
+      pub get-read : (n : ℕ) (exit : List ℕ) → writeAnswer 0 (vectorOf s (placeWith offset count dim dtype index)) buf ≡ Length n
+          → exit ≡ writeBuffer 0 (vectorOf s (placeWith offset count dim dtype index)) buf → (Read dim dtype n ≡ vectorIn s id buf) × (exit ≡ vectorBuffer s id buf)
+      unfolding readOf
+      get-read n exit p q =
+          let a : writeAnswer 0 (vectorOf s (found .place)) buf ≡ Length n = rw same-vector at p in
+          let r : Read (found .place .line .dim) (found .place .line .dtype) n ≡ Read dim dtype n = rw (found .dim-is, found .dtype-is) in
+          (sym r ∙ sym (to-place .0 ∙ ap (readOf (found .place)) a), q ∙ ap (λ (v : List ℕ). writeBuffer 0 v buf) same-vector ∙ sym (to-place .1))

@@ -1,0 +1,43 @@
+// A vector by its id out of a VEC_SEG payload. The payload is checked whole first: no vector leaves one that is not sound.
+ghost use mathlib.Core.Path.{_≡_};
+ghost use Rattle.vec_get.specs.Vector.{vectorIn, vectorBuffer};
+use answers::Wrote;
+use vec_find::Found;
+
+// What it answers: dim, dtype and the length written, or the number of a refusal.
+pub enum Vector {
+    Read {
+        dim: usize,
+        dtype: u8,
+        length: usize,
+    },
+    Refused(u32),
+}
+
+// 5, 6, 7 for a payload that is not sound; 8 where no block holds the id; 9 where the buffer is short.
+pub fn read(payload: &[u8], id: u64, buf: &mut [u8]) -> Vector
+    ensures { λ r. ⌜ r ≡ vectorIn (now (payload .entry)) id (now (buf .entry)) ⌝ }
+    ensures { λ _. ⌜ now (buf .exit) ≡ vectorBuffer (now (payload .entry)) id (now (buf .entry)) ⌝ }
+{
+    let bad = vec_check::check(payload);
+    if bad != 0 {
+        return Vector::Refused(bad);
+    }
+    let found = vec_find::find(payload, id);
+    match found {
+        Found::Missing => Vector::Refused(8),
+        Found::At {
+            offset,
+            count,
+            dim,
+            dtype,
+            index,
+        } => {
+            let w = vec_read::read_vector(payload, offset, count, dim, dtype, index, buf);
+            match w {
+                Wrote::Refused(e) => Vector::Refused(e),
+                Wrote::Length(length) => Vector::Read { dim, dtype, length },
+            }
+        }
+    }
+}
