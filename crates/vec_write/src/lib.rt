@@ -7,25 +7,8 @@ ghost use Rattle.octets.specs.Over.{over};
 ghost use Rattle.octets.specs.Round.{round64};
 ghost use Rattle.answers.specs.Write.{writeAnswer, writeBuffer};
 ghost use Rattle.idmap.specs.Encode.{mapBytes, mapBad};
-ghost use Rattle.vecseg.specs.Payload.{width};
 ghost use Rattle.vecseg.specs.Writer.{vecBad, vecBytes, blockBytes, padding, directory};
 use answers::Wrote;
-
-// Bytes of a value by its dtype, 0 where the dtype is not held.
-fn width_of(dtype: u64) -> u64
-    ensures { λ r. ⌜ (r ≡ width dtype) × (r ≤ 4) ⌝ }
-{
-    if dtype == 0 {
-        return 4;
-    }
-    if dtype == 3 {
-        return 1;
-    }
-    if dtype == 4 {
-        return 1;
-    }
-    0
-}
 
 // 14 where the input breaks a rule, else 0. Count, dim and width are bounded before they are multiplied.
 fn refusal(
@@ -39,7 +22,7 @@ fn refusal(
 ) -> u32
     ensures { λ r. ⌜ r ≡ vecBad (now (ids .entry)) (now (columns .entry)) dim dtype tier encoding interval ⌝ }
 {
-    let w = width_of(dtype);
+    let w = vecseg::width_of(dtype) as u64;
     if w == 0 {
         return 14;
     }

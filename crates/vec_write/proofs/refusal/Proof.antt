@@ -2,6 +2,7 @@
 -- Assumes nothing.
 use native.Mathlib.Omega.{arith}
 use lib.ListN.{length}
+use Rattle.vecseg.specs.LineLaws.{width-most}
 use Rattle.vec_write.specs.Refusal.{few-cells, bad-dtype, bad-low, bad-high, bad-tier, bad-many, bad-columns, bad-map}
 use borrow.Author.Needs.{needs}
 use Rattle.vec_write.proofs.refusal.Statement.{statement}
@@ -11,34 +12,34 @@ width-of-requires : tie.Need-width-of-requires
 width-of-requires c κs = search needs
 
 returns : tie.Need-returns
-returns c = bad-dtype _ _ _ _ _ _ _ _ (c .before .width-of .ensures .0) (c .if1 .taken)
+returns c = bad-dtype _ _ _ _ _ _ _ _ (c .before .width-of .ensures) (c .if1 .taken)
 
 returns-2 : tie.Need-returns-2
-returns-2 c = bad-low _ _ _ _ _ _ _ _ (c .before .before .width-of .ensures .0) (c .before .if1 .left) (omega arith)
+returns-2 c = bad-low _ _ _ _ _ _ _ _ (c .before .before .width-of .ensures) (c .before .if1 .left) (omega arith)
 
 returns-3 : tie.Need-returns-3
-returns-3 c = bad-high _ _ _ _ _ _ _ _ (c .before .before .before .width-of .ensures .0) (c .before .before .if1 .left) (omega arith) (omega arith)
+returns-3 c = bad-high _ _ _ _ _ _ _ _ (c .before .before .before .width-of .ensures) (c .before .before .if1 .left) (omega arith) (omega arith)
 
 returns-4 : tie.Need-returns-4
-returns-4 c = bad-tier _ _ _ _ _ _ _ _ (c .before .before .before .before .width-of .ensures .0) (c .before .before .before .if1 .left) (omega arith) (omega arith) (omega arith)
+returns-4 c = bad-tier _ _ _ _ _ _ _ _ (c .before .before .before .before .width-of .ensures) (c .before .before .before .if1 .left) (omega arith) (omega arith) (omega arith)
 
 returns-5 : tie.Need-returns-5
-returns-5 c = bad-many _ _ _ _ _ _ _ _ (c .before .before .before .before .before .width-of .ensures .0) (c .before .before .before .before .if1 .left) (omega arith) (omega arith) (omega arith) (omega arith)
+returns-5 c = bad-many _ _ _ _ _ _ _ _ (c .before .before .before .before .before .width-of .ensures) (c .before .before .before .before .if1 .left) (omega arith) (omega arith) (omega arith) (omega arith)
 
 mul-if6 : tie.Need-mul-if6
-mul-if6 c = omega (arith, few-cells (length (c .before .before .before .before .before .before .before .before .args .ids .now)) (c .before .before .before .before .before .before .before .before .args .dim) (c .before .before .before .before .before .width-of .result) (omega arith) (omega arith) (c .before .before .before .before .before .width-of .ensures .1) .0)
+mul-if6 c = omega (arith, few-cells (length (c .before .before .before .before .before .before .before .before .args .ids .now)) (c .before .before .before .before .before .before .before .before .args .dim) (c .before .before .before .before .before .width-of .result) (omega arith) (omega arith) (omega (arith, c .before .before .before .before .before .width-of .ensures, width-most (c .before .before .before .before .before .before .before .before .args .dtype))) .0)
 
 mul-if6-2 : tie.Need-mul-if6-2
-mul-if6-2 c = omega (arith, few-cells (length (c .before .before .before .before .before .before .before .before .args .ids .now)) (c .before .before .before .before .before .before .before .before .args .dim) (c .before .before .before .before .before .width-of .result) (omega arith) (omega arith) (c .before .before .before .before .before .width-of .ensures .1) .1)
+mul-if6-2 c = omega (arith, few-cells (length (c .before .before .before .before .before .before .before .before .args .ids .now)) (c .before .before .before .before .before .before .before .before .args .dim) (c .before .before .before .before .before .width-of .result) (omega arith) (omega arith) (omega (arith, c .before .before .before .before .before .width-of .ensures, width-most (c .before .before .before .before .before .before .before .before .args .dtype))) .1)
 
 returns-6 : tie.Need-returns-6
-returns-6 c = bad-columns _ _ _ _ _ _ _ _ (c .before .before .before .before .before .before .width-of .ensures .0) (c .before .before .before .before .before .if1 .left) (omega arith) (omega arith) (omega arith) (c .if6 .taken)
+returns-6 c = bad-columns _ _ _ _ _ _ _ _ (c .before .before .before .before .before .before .width-of .ensures) (c .before .before .before .before .before .if1 .left) (omega arith) (omega arith) (omega arith) (c .if6 .taken)
 
 refusal-requires : tie.Need-refusal-requires
 refusal-requires c κs = search needs
 
 returns-7 : tie.Need-returns-7
-returns-7 c = bad-map _ _ _ _ _ _ _ _ (c .before .before .before .before .before .before .before .width-of .ensures .0) (c .before .before .before .before .before .before .if1 .left) (omega arith) (omega arith) (omega arith) _ (c .refusal .ensures) (c .before .if6 .left)
+returns-7 c = bad-map _ _ _ _ _ _ _ _ (c .before .before .before .before .before .before .before .width-of .ensures) (c .before .before .before .before .before .before .if1 .left) (omega arith) (omega arith) (omega arith) _ (c .refusal .ensures) (c .before .if6 .left)
 
 pub refusal-spec : {M : Type 1} → statement M
 refusal-spec =
