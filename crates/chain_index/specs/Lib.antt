@@ -1,5 +1,4 @@
 -- The offsets of a chain's first links, and the search from the file's end that goes by them.
-pub mod Collect
 pub mod Down
 pub mod Numbered
 pub mod Offsets

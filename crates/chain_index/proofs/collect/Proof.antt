@@ -1,12 +1,10 @@
 -- `chain_index::collect` meets its contract, by where its loop stands.
 -- Assumes nothing.
-use Prim.Native.Nat.{_+_, _-_, _≤_}
+use Prim.Native.Nat.{_-_}
 use mathlib.Core.Path.{_≡_, refl, sym, _∙_}
 use native.Mathlib.Omega.{arith}
 use lib.ListN.{length}
-use Rattle.segment.specs.Chained.{chain-room}
-use Rattle.chain_index.specs.Offsets.{most}
-use Rattle.chain_index.specs.Collect.{CollectAt, collect-first, collect-next, collect-stop, collect-full}
+use Rattle.chain_index.specs.Offsets.{most, CollectAt, collect-first, collect-next, collect-stop, collect-full}
 use borrow.Author.Needs.{needs}
 use Rattle.chain_index.proofs.collect.Statement.{statement}
 use Rattle.chain_index.proofs.collect.Tie as tie
