@@ -1,0 +1,2 @@
+-- What opening answers.
+pub mod Opened
