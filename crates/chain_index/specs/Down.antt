@@ -2,12 +2,12 @@
 -- from those below it; whether a link begins at the next boundary down is one comparison. Any test of confirmation will do that confirms no
 -- link with more than `maxEntries` before it.
 -- Assumes nothing.
-use mathlib.Core.Path.{_≡_, refl, sym, ap, _∙_}
+use mathlib.Core.Path.{_≡_, sym, ap, _∙_}
 use mathlib.Core.Bool.{Bool, true, false}
 use mathlib.Core.Logic.{_⊎_, inl, inr, ⊎-elim}
 use mathlib.Core.Option.{none, some}
-use mathlib.Core.List.{List, _∷_, _++_}
-use Prim.Native.Nat.{ℕ, suc, _+_, _-_, _*_, _/_, _%_, _≤_, _<_}
+use mathlib.Core.List.{List}
+use Prim.Native.Nat.{ℕ, _+_, _-_, _*_, _/_, _%_, _≤_, _<_}
 use native.Mathlib.Omega.{arith}
 use native.Mathlib.Nat.{lt-of-not-le}
 use native.Mathlib.Decide.{decLe}
@@ -15,12 +15,10 @@ use lib.ListN.{length, take, drop, getD}
 use Rattle.limits.specs.Limits.{maxEntries}
 use Rattle.chain.specs.Chain.{sizes}
 use Rattle.chain.specs.Last.{openOf}
-use Rattle.chain.specs.Walk.{walk-fits}
 use Rattle.segment.specs.Header.{Link, start, reader}
-use Rattle.segment.specs.Laws.{segment-format}
 use Rattle.segment.specs.Chained.{chain}
 use Rattle.segment.specs.Search.{Placed, SearchAt, search-first, search-down, search-found, search-none}
-use Rattle.chain_index.specs.Offsets.{most, linkNo, Stored, stored-few, stored-has, stored-at, stored-rise, stored-aligned}
+use Rattle.chain_index.specs.Offsets.{linkNo, Stored, stored-has, stored-at, stored-rise, stored-aligned}
 use Rattle.chain_index.specs.Numbered.{Numbered, numbered-at, number-of}
 
 -- no link is confirmed that has more before it than a directory has room for
@@ -54,10 +52,6 @@ module _ (confirmed : List Link → Link → Bool) (f offsets : List ℕ) (n : �
       }
 
   module _ (p k : ℕ) (d : DownAt confirmed f offsets n p k) where
-    -- the places are those of a search by boundaries
-    pub down-inside : (p % 64 ≡ 0) × ((p ≤ length f) × (k ≤ n))
-    down-inside = (d .search .aligned, (d .search .inside, d .few))
-
     above : 64 ≤ p → SearchAt confirmed f (p - 64 + 64)
     above h = let e : p - 64 + 64 ≡ p = omega arith in rw e (d .search)
 

@@ -3,18 +3,20 @@
 -- Assumes nothing.
 use mathlib.Core.Path.{_≡_, refl, sym, ap, _∙_}
 use mathlib.Core.Option.{some}
-use mathlib.Core.List.{List, _∷_, _++_}
+use mathlib.Core.Bool.{Bool, true, false}
+use mathlib.Core.List.{List, [], _∷_, _++_}
 use Prim.Native.Nat.{ℕ, suc, _+_, _-_, _≤_, _<_}
 use native.Mathlib.Omega.{arith}
 use native.Mathlib.Numerals.{add-one}
-use lib.ListN.{length, take, drop, getD, length-drop, length-append}
-use lib.Seq.{drop-drop, getD-drop, getD-at, take-at, split-at, length-take-le}
+use lib.ListN.{length, take, drop, getD, length-take, length-drop, length-append}
+use lib.Seq.{drop-drop, getD-drop, getD-at, take-at, split-at, take-suc, length-take-le}
 use Rattle.le.specs.Le.{leAt, leOf}
-use Rattle.chain.specs.Chain.{afters, sizes}
+use Rattle.chain.specs.Chain.{afters, afters-append, sizes}
 use Rattle.chain.specs.Walk.{walk-at}
-use Rattle.segment.specs.Header.{Link, State, start, reader, linkAt, size, whole, hashIn}
-use Rattle.segment.specs.Laws.{segment-format, linkFront, Lies, lies, afters-at}
-use Rattle.segment.specs.Step.{wholeAt, whole-link}
+use Rattle.segment.specs.declared.Step.the-variants.{Sound}
+use Rattle.segment.specs.Header.{Link, State, start, reader, linkAt, size, after, whole}
+use Rattle.segment.specs.Laws.{segment-format, linkFront, lies, afters-at}
+use Rattle.segment.specs.Step.{stateAt, stepOf, stepAt, wholeAt, whole-link}
 use Rattle.segment.specs.Chained.{chain}
 use Rattle.segment.specs.Search.{Placed}
 use Rattle.chain_index.specs.Offsets.{noLink, linkNo, Stored, stored-few, stored-at}
@@ -93,3 +95,34 @@ pub number-of : (f : List ℕ) (b z : List Link) (l : Link) → chain f ≡ b ++
 number-of f b z l e =
     let n : length (chain f) ≡ length b + suc (length z) = ap length e ∙ length-append b (l ∷ z) in
     (omega arith, (sym (ap (take (length b)) e ∙ take-at b (l ∷ z) (length b) refl), sym (ap (λ (ls : List Link). getD ls (length b) noLink) e ∙ getD-at b l z noLink (length b) refl)))
+
+-- ---- the step at a numbered link
+
+module _ (f : List ℕ) (p i : ℕ) (l : Link) (m : Numbered f p i l) where
+  stepped : (first : Bool) (prev : ℕ) → afters reader start (take i (chain f)) ≡ stateAt p first prev
+      → stepAt f p first prev ≡ Sound (p + size l) (l .id) (length (l .payload)) (l .kind) (l .flags)
+  unfolding stepAt stepOf
+  stepped first prev e =
+      let r : linkAt (stateAt p first prev) (drop p f) ≡ some l = rw e at (m .reads) in
+      ap stepOf r ∙ ap (λ (o : ℕ). Sound (o + size l) (l .id) (length (l .payload)) (l .kind) (l .flags)) (m .offset-is)
+
+  -- the first link is read with any id before it
+  pub numbered-first : i ≡ 0 → (prev : ℕ) → stepAt f p true prev ≡ Sound (p + size l) (l .id) (length (l .payload)) (l .kind) (l .flags)
+  unfolding afters sizes
+  numbered-first e prev =
+      let z : p ≡ 0 = sym (m .placed .place) ∙ ap (λ (n : ℕ). sizes reader (take n (chain f))) e in
+      stepped true prev (ap (λ (n : ℕ). afters reader start (take n (chain f))) e ∙ ap (λ (n : ℕ). stateAt n true prev) (sym z))
+
+  -- every other with the id of the one before
+  pub numbered-later : 0 < i → stepAt f p false (linkNo f (i - 1) .id) ≡ Sound (p + size l) (l .id) (length (l .payload)) (l .kind) (l .flags)
+  unfolding afters
+  numbered-later h =
+      let b = take (i - 1) (chain f) in
+      let x = linkNo f (i - 1) in
+      let n : i ≤ length (chain f) = (let k = m .before in let t = length-take i (chain f) in omega arith) in
+      let s : i ≡ suc (i - 1) = omega arith in
+      let e : take i (chain f) ≡ b ++ x ∷ [] = ap (λ (n : ℕ). take n (chain f)) s ∙ take-suc (chain f) (i - 1) noLink (omega arith) in
+      let q : afters reader start (take i (chain f)) ≡ after (afters reader start b) x = ap (afters reader start) e ∙ afters-append reader start b (x ∷ []) in
+      let z : sizes reader (take i (chain f)) ≡ p = m .placed .place in
+      let a : afters reader start b .at + size x ≡ p = sym (ap (λ (st : State). st .at) q) ∙ afters-at start (take i (chain f)) ∙ omega arith in
+      stepped false (x .id) (q ∙ ap (λ (n : ℕ). stateAt n false (x .id)) a)
