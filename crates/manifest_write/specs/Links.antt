@@ -125,9 +125,10 @@ unfolding All linkFront
 lying-from f [] zs st e = tt
 lying-from f (l ∷ ls) zs st e =
     let p = walk-cons reader segment-format (drop (st .at) f) e in
-    let off : l .offset ≡ st .at = ap (λ (l : Link). l .offset) (lies st (drop (st .at) f) l (p .0) .link-is) in
-    (record { state = st; at-is = sym off; reads = subst (λ (n : ℕ). linkAt st (drop n f) ≡ some l) (sym off) (p .0) },
-    lying-from f ls zs (after st l) (subst (λ (x : List ℕ). walk reader (after st l) x ≡ ls ++ zs) (drop-drop (size l) (st .at) f) (p .1)))
+    let off : l .offset ≡ st .at = ap (λ (l : Link). l .offset) (lies st (drop (st .at) f) l (p .0) .link-is) in (
+      record { state = st; at-is = sym off; reads = subst (λ (n : ℕ). linkAt st (drop n f) ≡ some l) (sym off) (p .0) },
+      lying-from f ls zs (after st l) (subst (λ (x : List ℕ). walk reader (after st l) x ≡ ls ++ zs) (drop-drop (size l) (st .at) f) (p .1)),
+    )
 
 pub chain-lying : (f : List ℕ) (b z : List Link) → chain f ≡ b ++ z → All (Lying f) b
 chain-lying f b z e = lying-from f b z (record { at = 0; least = 0 }) e
