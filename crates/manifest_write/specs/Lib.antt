@@ -1,0 +1,4 @@
+-- A manifest's payload by the file alone, its laws, and the steps of writing it.
+pub mod At
+pub mod Links
+pub mod Laid
