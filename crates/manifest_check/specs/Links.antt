@@ -64,17 +64,17 @@ module _ (f : List ℕ) (at : ℕ) (b : List Link) (l : Link) (z : List Link) (p
       ap (statesHeldAt f os) s ∙ ap (λ (x : List ℕ). statesHeldAt f x (statesIn (length b) (drop 8 (l .payload)))) (sym e)
       ∙ states-lying f b (statesIn (length b) (drop 8 (l .payload))) before-lying in
       let wanted : payloadAt f os (statesOf f os at (length (l .payload))) at (l .id)
-          ≡ manifestPayload b (statesIn (length b) (drop 8 (l .payload))) (l .offset) (l .id) =
+      ≡ manifestPayload b (statesIn (length b) (drop 8 (l .payload))) (l .offset) (l .id) =
       ap (λ (x : List ℕ). payloadAt f os x at (l .id)) s
       ∙ ap (λ (x : List ℕ). payloadAt f x (statesIn (length b) (drop 8 (l .payload))) at (l .id)) (sym e)
       ∙ payload-lying f b (statesIn (length b) (drop 8 (l .payload))) at (l .id) t before-lying
       ∙ ap (λ (o : ℕ). manifestPayload b (statesIn (length b) (drop 8 (l .payload))) o (l .id)) (sym (link-place f b z l (p .split) ∙ p .place)) in
       ap (λ (c : ℕ). verdict (l .kind) c (wholeAt f at (length (l .payload))) (statesHeldAt f os (statesOf f os at (length (l .payload))))
-          (payloadIn f at (length (l .payload))) (payloadAt f os (statesOf f os at (length (l .payload))) at (l .id))) n
+      (payloadIn f at (length (l .payload))) (payloadAt f os (statesOf f os at (length (l .payload))) at (l .id))) n
       ∙ ap (λ (w : Bool). verdict (l .kind) (length b) w (statesHeldAt f os (statesOf f os at (length (l .payload))))
-          (payloadIn f at (length (l .payload))) (payloadAt f os (statesOf f os at (length (l .payload))) at (l .id)))
-          (sym (whole-link f (afters reader start b) at l reads))
+      (payloadIn f at (length (l .payload))) (payloadAt f os (statesOf f os at (length (l .payload))) at (l .id)))
+      (sym (whole-link f (afters reader start b) at l reads))
       ∙ ap (λ (h : Bool). verdict (l .kind) (length b) (whole l) h (payloadIn f at (length (l .payload))) (payloadAt f os (statesOf f os at (length (l .payload))) at (l .id))) held
       ∙ ap (λ (x : List ℕ). verdict (l .kind) (length b) (whole l) (statesHeld b (statesIn (length b) (drop 8 (l .payload)))) x
-          (payloadAt f os (statesOf f os at (length (l .payload))) at (l .id))) payload-is
+      (payloadAt f os (statesOf f os at (length (l .payload))) at (l .id))) payload-is
       ∙ ap (verdict (l .kind) (length b) (whole l) (statesHeld b (statesIn (length b) (drop 8 (l .payload)))) (l .payload)) wanted

@@ -11,12 +11,13 @@ use lib.ListN.{length, take, drop, getD, set, length-set, length-drop, drop-of-l
 use lib.Seq.{drop-cons, getD-drop, length-take-le}
 use borrow.Author.Tests.{ne-eqb, lt-leb, le-leb}
 use Rattle.octets.specs.Over.{over, over-none, over-front, over-at}
+use Rattle.octets.specs.Round.{round64}
 use Rattle.octets.specs.Zero.{sameBytes, same-length}
 use Rattle.limits.specs.Limits.{maxEntries}
 use Rattle.segment.specs.Tests.{second-fails}
 use Rattle.segment.specs.Step.{wholeAt}
-use Rattle.manifest.specs.Payload.{entrySize, manifestKind, statesIn, payloadLength}
-use Rattle.manifest_write.specs.At.{Inside, payloadAt, length-payloadAt}
+use Rattle.manifest.specs.Payload.{entrySize, statesIn, recordEnd, payloadLength}
+use Rattle.manifest_write.specs.At.{Inside, payloadAt, length-payloadAt, record-ge}
 use Rattle.manifest_check.specs.At.{stateOf, statesHeldAt, payloadIn, statesOf, confirmedAt}
 
 -- ---- the states, read off a payload
@@ -141,3 +142,34 @@ payload-front buf b f os ss at len id t e p =
     ap (take len) p
     ∙ ap (λ (k : ℕ). take k (over buf 0 (payloadAt f os ss at id))) (e ∙ sym (length-payloadAt f os ss at id t))
     ∙ over-at buf 0 (payloadAt f os ss at id) (omega arith)
+
+-- ---- the payload as the function has it: a part of the file
+
+part-is : (f : List ℕ) (at len : ℕ) → take (at + 64 + len - (at + 64)) (drop (at + 64) f) ≡ payloadIn f at len
+part-is f at len = let e : at + 64 + len - (at + 64) ≡ len = omega arith in ap (λ (k : ℕ). take k (drop (at + 64) f)) e
+
+-- a payload ends at a multiple of 64
+pub payload-aligned : (c : ℕ) → round64 (payloadLength c) ≡ payloadLength c
+unfolding payloadLength recordEnd round64
+payload-aligned c = omega arith
+
+module _ (f os : List ℕ) (at len : ℕ) where
+  -- it has room for the entries
+  pub part-room : at + (64 + len) ≤ length f → len ≡ payloadLength (length os) → 8 + 48 * length os ≤ length (take (at + 64 + len - (at + 64)) (drop (at + 64) f))
+  unfolding payloadLength
+  part-room h e =
+      let n : length (take (at + 64 + len - (at + 64)) (drop (at + 64) f)) ≡ len = ap length (part-is f at len) ∙ payload-length f os at len 0 h in
+      omega (arith, record-ge (length os))
+
+  pub states-are : (s₀ s : List ℕ) → s ≡ over s₀ 0 (statesIn (length os) (drop 8 (take (at + 64 + len - (at + 64)) (drop (at + 64) f))))
+      → take (length os) s ≡ statesOf f os at len
+  states-are s₀ s p =
+      states-front s₀ s (take (at + 64 + len - (at + 64)) (drop (at + 64) f)) (length os) p ∙ ap (λ (x : List ℕ). statesIn (length os) (drop 8 x)) (part-is f at len)
+
+  pub compared : (buf b ss : List ℕ) (id : ℕ) (r : Bool) → Inside f os → len ≡ payloadLength (length os) → ss ≡ statesOf f os at len
+      → b ≡ over buf 0 (payloadAt f os ss at id) → r ≡ sameBytes (take (at + 64 + len - (at + 64)) (drop (at + 64) f)) (take len b)
+      → r ≡ sameBytes (payloadIn f at len) (payloadAt f os (statesOf f os at len) at id)
+  compared buf b ss id r t e s p q =
+      q
+      ∙ ap (λ (x : List ℕ). sameBytes x (take len b)) (part-is f at len)
+      ∙ ap (sameBytes (payloadIn f at len)) (payload-front buf b f os ss at len id t e p ∙ ap (λ (x : List ℕ). payloadAt f os x at id) s)
