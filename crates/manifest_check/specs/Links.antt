@@ -1,25 +1,21 @@
--- The test by the file alone is the definition, for a link of the chain and the places of those before it; and so for the link that a step finds, in a loop
--- that walks the chain by steps and gathers where its links begin.
+-- The test by the file alone is the definition, for a link of the chain and the places of those before it.
 -- Assumes nothing.
-use Prim.Native.Nat.{ℕ, _+_, _<_}
+use Prim.Native.Nat.{ℕ, _+_, _≤_}
 use mathlib.Core.Path.{_≡_, refl, sym, ap, subst, _∙_}
-use mathlib.Core.Bool.{Bool, false, _&&_}
+use mathlib.Core.Bool.{Bool, _&&_}
 use mathlib.Core.Option.{some}
 use mathlib.Core.List.{List, [], _∷_, _++_}
-use native.Mathlib.Numerals.{add-one}
-use lib.ListN.{length, take, drop, getD, set, length-map}
-use lib.Seq.{drop-drop, getD-drop, take-suc-set}
-use borrow.Author.Tests.{lt-leb}
+use native.Mathlib.Omega.{arith}
+use lib.ListN.{length, take, drop, getD, length-map}
+use lib.Seq.{drop-drop, getD-drop}
 use Rattle.le.specs.Le.{Bytes}
-use Rattle.chain.specs.Chain.{All, afters}
+use Rattle.chain.specs.Chain.{All, afters, sizes}
 use Rattle.chain.specs.Walk.{walk-at}
-use Rattle.segment.specs.declared.Step.the-variants.{Sound}
-use Rattle.segment.specs.Tests.{second-fails}
-use Rattle.segment.specs.Header.{Link, start, reader, linkAt, whole}
+use Rattle.segment.specs.Header.{Link, State, start, reader, linkAt, whole}
 use Rattle.segment.specs.Laws.{segment-format, linkFront, Lies, lies}
-use Rattle.segment.specs.Step.{wholeAt, whole-link, stepAt}
-use Rattle.segment.specs.Chained.{chain, link-place, ChainAt, Stepped, step-link, chain-link}
-use Rattle.segment.specs.Search.{Placed, stepped-at}
+use Rattle.segment.specs.Step.{wholeAt, whole-link}
+use Rattle.segment.specs.Chained.{chain, link-place}
+use Rattle.segment.specs.Search.{Placed}
 use Rattle.manifest.specs.Payload.{stateHeld, statesHeld, statesIn, manifestPayload, confirmed}
 use Rattle.manifest_write.specs.At.{Inside, payloadAt}
 use Rattle.manifest_write.specs.Links.{Lying, offsetsOf, lying-inside, payload-lying, chain-lying}
@@ -60,6 +56,8 @@ module _ (f : List ℕ) (at : ℕ) (b : List Link) (l : Link) (z : List Link) (p
   unfolding confirmedAt confirmed
   confirmed-at os t e =
       let n : length os ≡ length b = ap length (sym e) ∙ length-map b (λ l. l .offset) in
+      let len : ℕ = length (l .payload) in
+      let ss : List ℕ = statesIn (length b) (drop 8 (l .payload)) in
       let s : statesOf f os at (length (l .payload)) ≡ statesIn (length b) (drop 8 (l .payload)) =
       ap (λ (c : ℕ). statesIn c (drop 8 (payloadIn f at (length (l .payload))))) n ∙ ap (λ (x : List ℕ). statesIn (length b) (drop 8 x)) payload-is in
       let held : statesHeldAt f os (statesOf f os at (length (l .payload))) ≡ statesHeld b (statesIn (length b) (drop 8 (l .payload))) =
@@ -80,49 +78,3 @@ module _ (f : List ℕ) (at : ℕ) (b : List Link) (l : Link) (z : List Link) (p
       ∙ ap (λ (x : List ℕ). verdict (l .kind) (length b) (whole l) (statesHeld b (statesIn (length b) (drop 8 (l .payload)))) x
       (payloadAt f os (statesOf f os at (length (l .payload))) at (l .id))) payload-is
       ∙ ap (verdict (l .kind) (length b) (whole l) (statesHeld b (statesIn (length b) (drop 8 (l .payload)))) (l .payload)) wanted
-
--- ---- a loop of steps
-
--- the first n places are those of the first n links
-abbrev pub OffsetsAt : List ℕ → List ℕ → ℕ → Type 0
-OffsetsAt f offs n = offsetsOf (take n (chain f)) ≡ take n offs
-
-pub offsets-first : (f offs : List ℕ) → OffsetsAt f offs 0
-offsets-first f offs = refl
-
-offsets-append : (a b : List Link) → offsetsOf (a ++ b) ≡ offsetsOf a ++ offsetsOf b
-offsets-append [] b = refl
-offsets-append (l ∷ a) b = ap (λ (x : List ℕ). l .offset ∷ x) (offsets-append a b)
-
--- more links than a directory holds
-pub many-not-confirmed : (b : List Link) (l : Link) → 1024 < length b → confirmed b l ≡ false
-unfolding confirmed
-many-not-confirmed b l h = rw (lt-leb (length b) 1024 h, second-fails)
-
-module _ (f : List ℕ) (n at : ℕ) (first : Bool) (prev : ℕ) (c : ChainAt f n at first prev) (end id len kind flags : ℕ)
-    (e : stepAt f at first prev ≡ Sound end id len kind flags) (offs : List ℕ) (o : OffsetsAt f offs n) where
-  abbrev step : Stepped f at first prev end id len kind flags
-  step = step-link f at first prev end id len kind flags e
-
-  abbrev placed : Placed f at (take n (chain f)) (step .link) (drop (n + 1) (chain f))
-  placed = stepped-at f n at first prev c end id len kind flags e
-
-  -- one place more
-  pub offsets-next : n < length offs → OffsetsAt f (set offs n at) (n + 1)
-  offsets-next h =
-      ap offsetsOf (chain-link f n at first prev c end id len kind flags e)
-      ∙ offsets-append (take n (chain f)) (step .link ∷ [])
-      ∙ ap (λ (x : List ℕ). x ++ (step .link .offset ∷ [])) o
-      ∙ ap (λ (k : ℕ). take n offs ++ (k ∷ [])) (step .offset-is)
-      ∙ sym (rw add-one (take-suc-set offs n at h))
-
-  pub offsets-inside : Inside f (take n offs)
-  offsets-inside = subst (Inside f) o (before-inside f at (take n (chain f)) (step .link) (drop (n + 1) (chain f)) placed)
-
-  -- the test of the link that the step found
-  pub step-confirmed : Bytes f → confirmedAt f (take n offs) at len kind id ≡ confirmed (take n (chain f)) (step .link)
-  step-confirmed t =
-      ap (λ (k : ℕ). confirmedAt f (take n offs) at k kind id) (step .length-is)
-      ∙ ap (λ (k : ℕ). confirmedAt f (take n offs) at (length (step .link .payload)) k id) (step .kind-is)
-      ∙ ap (confirmedAt f (take n offs) at (length (step .link .payload)) (step .link .kind)) (step .id-is)
-      ∙ confirmed-at f at (take n (chain f)) (step .link) (drop (n + 1) (chain f)) placed (take n offs) t o
