@@ -1,2 +1,5 @@
--- What opening answers.
+-- What opening answers, and the directory's entry with an index.
+pub mod Candidate
 pub mod Opened
+pub mod Entry
+pub mod EntryLaws

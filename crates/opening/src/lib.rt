@@ -1,4 +1,14 @@
-// Opening a file.
+// Opening a file: the search from its end for the last confirmed manifest of the chain.
+ghost use mathlib.Core.Path.{_≡_};
+ghost use Prim.Native.Nat.{_+_, _≤_, _<_};
+ghost use lib.ListN.{length, take};
+ghost use Rattle.segment.specs.Chained.{chain};
+ghost use Rattle.chain_index.specs.Offsets.{most, linkNo, Stored};
+ghost use Rattle.chain_index.specs.Numbered.{Numbered};
+ghost use Rattle.manifest.specs.Payload.{confirmed};
+ghost use Rattle.manifest.specs.Opening.{opened};
+ghost use Rattle.opening.specs.Opened.{foundCase, openedCase};
+ghost use Rattle.opening.specs.Entry.{entryCase, entryAt};
 
 // What opening a file answers: its manifest's offset, end and id, the number of its entries and the boundaries tried; or no manifest
 // with the boundaries tried; or the number of a refusal.
@@ -14,4 +24,125 @@ pub enum Opened {
         tried: usize,
     },
     Refused(u32),
+}
+
+// What the directory has at an index: the fields of the entry, the hash as two numbers; or no entry; or the number of a refusal.
+pub enum DirectoryEntry {
+    Of {
+        offset: u64,
+        id: u64,
+        length: u64,
+        hash_low: u64,
+        hash_high: u64,
+        kind: u8,
+        state: u8,
+        flags: u16,
+    },
+    NoEntry,
+    Refused(u32),
+}
+
+// Whether the link with number i, which begins at p, is a confirmed manifest.
+fn candidate(file: &[u8], offsets: &[u64], n: usize, i: usize, p: usize) -> bool
+    requires { ⌜ (Stored (now file) (now offsets) n) × ((i < n) × (most ≤ length (now offsets))) ⌝ }
+    requires { ⌜ Numbered (now file) p i (linkNo (now file) i) ⌝ }
+    ensures { λ r. ⌜ r ≡ confirmed (take i (chain (now (file .entry)))) (linkNo (now (file .entry)) i) ⌝ }
+{
+    let len = le::u64_at(file, p + 0x10) as usize;
+    let id = le::u64_at(file, p + 0x08);
+    let kind = file[p + 0x05];
+    manifest_check::is_confirmed(file, offsets, i, p, len, kind, id)
+}
+
+// Down from the last multiple of 64 that has 64 bytes after it, by 64. The offsets of the chain's first links rise, so a number k that
+// only goes down tells whether a link begins at a boundary; only there is more than that looked at.
+fn search(file: &[u8], offsets: &[u64], n: usize) -> Opened
+    requires { ⌜ (Stored (now file) (now offsets) n) × ((most ≤ length (now offsets)) × (length (now file) ≤ 16777216)) ⌝ }
+    ensures { λ r. ⌜ r ≡ foundCase (now (file .entry)) (opened (now (file .entry))) ⌝ }
+{
+    let mut k = n;
+    let mut p = file.len() / 64 * 64;
+    let mut tried: usize = 0;
+    while p > 0 {
+        tried += 1;
+        p -= 64;
+        if k == 0 {
+            continue;
+        }
+        let i = k - 1;
+        if offsets[i] != p as u64 {
+            continue;
+        }
+        if candidate(file, offsets, n, i, p) {
+            let len = le::u64_at(file, p + 0x10) as usize;
+            return Opened::At {
+                offset: p,
+                end: p + 64 + octets::round_up(len),
+                id: le::u64_at(file, p + 0x08),
+                count: i,
+                tried,
+            };
+        }
+        k = i;
+    }
+    Opened::NoManifest { tried }
+}
+
+// The file's manifest; 1 for a file above the limit, then 2 where no manifest is confirmed.
+pub fn open(file: &[u8]) -> Opened
+    ensures { λ r. ⌜ r ≡ openedCase (now (file .entry)) ⌝ }
+{
+    if file.len() > limits::MAX_FILE {
+        return Opened::Refused(1);
+    }
+    let mut offsets = [0u64; 1025];
+    let n = chain_index::collect(file, &mut offsets);
+    search(file, &offsets, n)
+}
+
+// The entry of the link whose header begins at p, with the state that stands at s. A confirmed manifest says of a link what the link's own
+// header says; the state stands in the manifest alone.
+fn read_entry(file: &[u8], p: usize, s: usize) -> DirectoryEntry
+    requires { ⌜ (p + 64 ≤ length (now file)) × (s < length (now file)) ⌝ }
+    ensures { λ r. ⌜ r ≡ entryAt (now (file .entry)) p s ⌝ }
+{
+    DirectoryEntry::Of {
+        offset: p as u64,
+        id: le::u64_at(file, p + 0x08),
+        length: le::u64_at(file, p + 0x10),
+        hash_low: le::u64_at(file, p + 0x28),
+        hash_high: le::u64_at(file, p + 0x30),
+        kind: file[p + 0x05],
+        state: file[s],
+        flags: le::u16_at(file, p + 0x06),
+    }
+}
+
+// The entry with an index in the directory of the file's manifest; 1 and 2 as opening has them.
+pub fn entry(file: &[u8], index: u64) -> DirectoryEntry
+    ensures { λ r. ⌜ r ≡ entryCase (now (file .entry)) index ⌝ }
+{
+    if file.len() > limits::MAX_FILE {
+        return DirectoryEntry::Refused(1);
+    }
+    let mut offsets = [0u64; 1025];
+    let n = chain_index::collect(file, &mut offsets);
+    let found = search(file, &offsets, n);
+    match found {
+        Opened::Refused(number) => DirectoryEntry::Refused(number),
+        Opened::NoManifest { tried: _ } => DirectoryEntry::Refused(2),
+        Opened::At {
+            offset,
+            end: _,
+            id: _,
+            count,
+            tried: _,
+        } => {
+            if index >= count as u64 {
+                return DirectoryEntry::NoEntry;
+            }
+            let i = index as usize;
+            read_entry(file, offsets[i] as usize, offset + 72 + 48 * i + 41)
+        }
+    }
 }
