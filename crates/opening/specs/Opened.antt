@@ -7,11 +7,12 @@ use mathlib.Core.Option.{Option, none, some}
 use mathlib.Core.List.{List, [], _∷_}
 use native.Mathlib.Omega.{arith}
 use lib.Dec.{eqb, leb}
-use lib.ListN.{length, take, drop, getD}
+use lib.ListN.{length, take, drop, getD, set}
+use lib.Seq.{sets}
 use borrow.Author.Tests.{le-leb, lt-leb}
 use Rattle.octets.specs.Round.{round64}
 use Rattle.octets.specs.Zero.{sameBytes}
-use Rattle.answers.specs.Answer.{Answer, Accepted, Refusal}
+use Rattle.answers.specs.Answer.{Answer, Accepted, Refusal, number}
 use Rattle.limits.specs.Limits.{maxFile, maxEntries}
 use Rattle.chain.specs.Last.{Found, openOf}
 use Rattle.segment.specs.Header.{Link, whole, size, start, reader}
@@ -26,6 +27,13 @@ unfoldable pub openedAnswer : Opened → Answer
 openedAnswer (At offset end id count t) = Accepted (offset ∷ end ∷ id ∷ count ∷ t ∷ [])
 openedAnswer (NoManifest t) = Refusal 2 (t ∷ [])
 openedAnswer (Refused n) = Refusal n []
+
+-- what an array for the values holds after the call: the values, or what it held; where no manifest is found, the boundaries tried at index 4
+-- alone
+unfoldable pub openOut : List ℕ → Answer → List ℕ
+openOut out (Accepted vs) = sets out 0 vs
+openOut out (Refusal n []) = out
+openOut out (Refusal n (t ∷ ts)) = set out 4 t
 
 -- the case of what is found
 unfoldable pub foundCase : List ℕ → Option (Found Link) → Opened
@@ -48,6 +56,21 @@ opened-same f = pick (leb (length f) maxFile)
     pick : (t : Bool) → openedAnswer (cond t (foundCase f (opened f)) (Refused 1)) ≡ cond t (openFound f (opened f)) (Refusal 1 [])
     pick true = found-same f (opened f)
     pick false = refl
+
+-- ---- an exported call's number and array, case by case
+
+pub out-opened : (f out : List ℕ) (offset end id count t : ℕ) → At offset end id count t ≡ openedCase f
+    → (0 ≡ number (openAnswer f)) × (sets out 0 (offset ∷ end ∷ id ∷ count ∷ t ∷ []) ≡ openOut out (openAnswer f))
+unfolding openedAnswer number openOut
+out-opened f out offset end id count t e = rw (← opened-same f, ← e) (refl, refl)
+
+pub out-none : (f out : List ℕ) (t : ℕ) → NoManifest t ≡ openedCase f → (2 ≡ number (openAnswer f)) × (set out 4 t ≡ openOut out (openAnswer f))
+unfolding openedAnswer number openOut
+out-none f out t e = rw (← opened-same f, ← e) (refl, refl)
+
+pub out-refused : (f out : List ℕ) (n : ℕ) → Refused n ≡ openedCase f → (n ≡ number (openAnswer f)) × (out ≡ openOut out (openAnswer f))
+unfolding openedAnswer number openOut
+out-refused f out n e = rw (← opened-same f, ← e) (refl, refl)
 
 -- ---- the ways out
 

@@ -1,3 +1,4 @@
 // The exported calls. Each decides nothing: it calls the function below it, returns the number of a refusal or 0, and lays the values into `out`.
+mod files;
 mod leaves;
 mod payloads;
