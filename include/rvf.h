@@ -54,6 +54,15 @@ uint32_t rvf_vec_write(uint8_t *buffer, size_t len, const uint64_t *ids, size_t 
 uint32_t rvf_vec_read(const uint8_t *payload, size_t len, uint64_t id, uint8_t *buffer, size_t buffer_len,
                       uint64_t out[3]);
 
+/* The file's manifest: the last confirmed link of the chain from byte 0, found from the end. out: offset, end, id, number
+ * of entries, boundaries tried. Refuses 1, then 2, which writes out[4], the boundaries tried, alone. */
+uint32_t rvf_open(const uint8_t *file, size_t len, uint64_t out[5]);
+
+/* The entry with an index in the directory of the file's manifest. out: offset, id, payload length, hash bytes 0 to 7
+ * and 8 to 15 as two little-endian numbers, type, state, flags. Refuses 1, then 2; answers 255, which is no number of the
+ * rules, where the index is not below the number of entries. */
+uint32_t rvf_entry(const uint8_t *file, size_t len, uint64_t index, uint64_t out[8]);
+
 #ifdef __cplusplus
 }
 #endif

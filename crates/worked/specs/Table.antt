@@ -5,11 +5,15 @@ use mathlib.Core.Path.{_≡_, refl}
 use mathlib.Core.Bool.{cond}
 use mathlib.Core.List.{List, [], _∷_, _++_}
 use lib.ListN.{replicate}
+use Rattle.answers.specs.Answer.{Refusal}
 use Rattle.le.specs.Le.{leOf, leBytes}
 use Rattle.varint.specs.declared.Varint.{Varint}
 use Rattle.varint.specs.declared.Varint.the-variants.{Value, Refused}
 use Rattle.varint.specs.Varint.{leb128, varintOf, more, decode, below64, readVarint}
 use Rattle.idmap.specs.Encode.{mapHead, deltaOf, leftAfter, deltas, restartOf, restarts, intervalOf, mapBytes}
+use Rattle.chain.specs.Chain.{walk, walkF}
+use Rattle.chain.specs.Last.{scan, lastConfirmed, openOf}
+use Rattle.manifest.specs.Opening.{opened, tried, openFound, openAnswer}
 
 -- the list of document 002's delta example
 abbrev example : List ℕ
@@ -28,10 +32,12 @@ pub record Table : Type 0 where
   pub interval-2 : mapBytes example 1 2
       ≡ (1 ∷ 2 ∷ 0 ∷ 5 ∷ 0 ∷ 0 ∷ 0 ∷ [])
       ++ ((0 ∷ 0 ∷ 0 ∷ 0 ∷ 2 ∷ 0 ∷ 0 ∷ 0 ∷ 4 ∷ 0 ∷ 0 ∷ 0 ∷ []) ++ (0x64 ∷ 0x05 ∷ 0x6C ∷ 0x0C ∷ 0xC8 ∷ 0x01 ∷ []))
+  -- opening: N = 0
+  pub nothing-opened : openAnswer [] ≡ Refusal 2 (0 ∷ [])
 
 -- to unfold this is to unfold what the line names
 open-all : Unit {0}
-unfolding leb128 varintOf more decode below64 readVarint leBytes mapHead deltaOf leftAfter deltas restartOf restarts intervalOf mapBytes
+unfolding leb128 varintOf more decode below64 readVarint leBytes mapHead deltaOf leftAfter deltas restartOf restarts intervalOf mapBytes openAnswer openFound opened tried openOf lastConfirmed scan walk walkF
 open-all = tt
 
 pub table : Table
@@ -46,4 +52,5 @@ table =
       not-shortest = refl;
       interval-64 = refl;
       interval-2 = refl;
+      nothing-opened = refl;
     }
