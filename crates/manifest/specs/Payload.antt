@@ -13,6 +13,7 @@ use Rattle.le.specs.Le.{leBytes}
 use Rattle.limits.specs.Limits.{maxEntries}
 use Rattle.crc32c.specs.Crc.{crcOf}
 use Rattle.segment.specs.Header.{Link, whole}
+use Rattle.manifest.specs.Sized.{entriesOf, statesBy, recordBy}
 
 -- the type of a manifest
 abbrev pub manifestKind : ℕ
@@ -36,26 +37,23 @@ stateHeld l state = cond (eqb (l .kind) manifestKind) (eqb state 0) (leb state 1
 
 -- ---- a directory: links, and the state of each
 
-unfoldable pub entries : List Link → List ℕ → List ℕ
-entries [] ss = []
-entries (l ∷ ls) [] = entryBytes l 0 ++ entries ls []
-entries (l ∷ ls) (s ∷ ss) = entryBytes l s ++ entries ls ss
+abbrev pub entries : List Link → List ℕ → List ℕ
+entries = entriesOf entryBytes
 
 unfoldable pub statesHeld : List Link → List ℕ → Bool
 statesHeld [] ss = true
 statesHeld (l ∷ ls) [] = true
 statesHeld (l ∷ ls) (s ∷ ss) = stateHeld l s && statesHeld ls ss
 
--- the states of n entries, read off the bytes of a directory: byte 41 of each entry
-unfoldable pub statesIn : ℕ → List ℕ → List ℕ
-statesIn zero e = []
-statesIn (suc n) e = getD e 41 0 ∷ statesIn n (drop entrySize e)
+-- the states of n entries, read off the bytes of a directory
+abbrev pub statesIn : ℕ → List ℕ → List ℕ
+statesIn = statesBy entrySize
 
 -- ---- the payload
 
 -- the record of c entries takes so many bytes, its fill included
-unfoldable pub recordEnd : ℕ → ℕ
-recordEnd c = round64 (8 + entrySize * c)
+abbrev pub recordEnd : ℕ → ℕ
+recordEnd = recordBy entrySize
 
 -- tag 1 as u16, length as u32, zero u16, then the entries; zero fill to a multiple of 64
 unfoldable pub recordBytes : List Link → List ℕ → List ℕ

@@ -16,24 +16,12 @@ use Rattle.octets.specs.Zero.{sameBytes, same-length}
 use Rattle.limits.specs.Limits.{maxEntries}
 use Rattle.segment.specs.Tests.{second-fails}
 use Rattle.segment.specs.Step.{wholeAt}
+use Rattle.manifest.specs.Sized.{recordBy, statesBy, length-statesBy, statesBy-more}
 use Rattle.manifest.specs.Payload.{entrySize, statesIn, recordEnd, payloadLength}
 use Rattle.manifest_write.specs.At.{Inside, payloadAt, length-payloadAt, record-ge}
 use Rattle.manifest_check.specs.At.{stateOf, statesHeldAt, payloadIn, statesOf, confirmedAt}
 
 -- ---- the states, read off a payload
-
-pub length-statesIn : (n : ℕ) (e : List ℕ) → length (statesIn n e) ≡ n
-unfolding statesIn
-length-statesIn zero e = refl
-length-statesIn (suc n) e = ap suc (length-statesIn n (drop entrySize e))
-
-states-more : (i : ℕ) (e : List ℕ) → statesIn (suc i) e ≡ statesIn i e ++ (getD e (48 * i + 41) 0 ∷ [])
-unfolding statesIn
-states-more zero e = refl
-states-more (suc i) e =
-    let g : getD (drop 48 e) (48 * i + 41) 0 ≡ getD e (48 * suc i + 41) 0 =
-    getD-drop 48 e (48 * i + 41) 0 ∙ ap (λ (k : ℕ). getD e k 0) (omega arith) in
-    ap (λ (x : List ℕ). getD e 41 0 ∷ x) (states-more i (drop 48 e)) ∙ ap (λ (b : ℕ). getD e 41 0 ∷ (statesIn i (drop 48 e) ++ (b ∷ []))) g
 
 -- i states are read
 pub record StatesRead (s₀ s payload : List ℕ) (n i : ℕ) : Type 0 where
@@ -42,7 +30,7 @@ pub record StatesRead (s₀ s payload : List ℕ) (n i : ℕ) : Type 0 where
   pub laid : s ≡ over s₀ 0 (statesIn i (drop 8 payload))
 
 pub read-first : (s payload : List ℕ) (n : ℕ) → StatesRead s s payload n 0
-unfolding statesIn
+unfolding statesBy
 read-first s payload n = record { few = omega arith; long = refl; laid = sym (over-none s 0) }
 
 pub read-next : (s₀ s payload : List ℕ) (n i : ℕ) → StatesRead s₀ s payload n i → i < n → n ≤ length s₀
@@ -55,8 +43,8 @@ read-next s₀ s payload n i st h k =
       long = length-set s i (getD payload (8 + 48 * i + 41) 0) ∙ st .long;
       laid =
           ap (set s i) g
-          ∙ rw (add-one, states-more i (drop 8 payload))
-          (over-front s₀ s (statesIn i (drop 8 payload)) i (getD (drop 8 payload) (48 * i + 41) 0) (st .laid) (length-statesIn i (drop 8 payload)) (omega arith));
+          ∙ rw (add-one, statesBy-more entrySize i (drop 8 payload))
+          (over-front s₀ s (statesIn i (drop 8 payload)) i (getD (drop 8 payload) (48 * i + 41) 0) (st .laid) (length-statesBy entrySize i (drop 8 payload)) (omega arith));
     }
 
 pub read-last : (s₀ s payload : List ℕ) (n i : ℕ) → StatesRead s₀ s payload n i → n ≤ i → s ≡ over s₀ 0 (statesIn n (drop 8 payload))
@@ -132,7 +120,7 @@ module _ (f os : List ℕ) (at len id : ℕ) where
 pub states-front : (s₀ s payload : List ℕ) (n : ℕ) → s ≡ over s₀ 0 (statesIn n (drop 8 payload)) → take n s ≡ statesIn n (drop 8 payload)
 states-front s₀ s payload n p =
     ap (take n) p
-    ∙ ap (λ (k : ℕ). take k (over s₀ 0 (statesIn n (drop 8 payload)))) (sym (length-statesIn n (drop 8 payload)))
+    ∙ ap (λ (k : ℕ). take k (over s₀ 0 (statesIn n (drop 8 payload)))) (sym (length-statesBy entrySize n (drop 8 payload)))
     ∙ over-at s₀ 0 (statesIn n (drop 8 payload)) (omega arith)
 
 -- and so does the payload that was written
@@ -150,7 +138,7 @@ part-is f at len = let e : at + 64 + len - (at + 64) ≡ len = omega arith in ap
 
 -- a payload ends at a multiple of 64
 pub payload-aligned : (c : ℕ) → round64 (payloadLength c) ≡ payloadLength c
-unfolding payloadLength recordEnd round64
+unfolding payloadLength recordBy round64
 payload-aligned c = omega arith
 
 module _ (f os : List ℕ) (at len : ℕ) where

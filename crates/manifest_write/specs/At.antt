@@ -11,6 +11,8 @@ use lib.Seq.{length-take-le, getD-drop}
 use Rattle.octets.specs.Round.{round64, round64-ge}
 use Rattle.le.specs.Le.{leBytes}
 use Rattle.le.specs.Laws.{length-leBytes}
+use Rattle.chain.specs.Chain.{All}
+use Rattle.manifest.specs.Sized.{entriesOf, length-entriesOf, recordBy-ge}
 use Rattle.manifest.specs.Payload.{entrySize, recordEnd, payloadLength, rootBytes, root}
 
 -- every place has a header's bytes behind it
@@ -25,9 +27,8 @@ entryAt f o state =
     ++ (take 16 (drop (o + 0x28) f) ++ ((getD f (o + 0x05) 0 ∷ []) ++ ((state ∷ []) ++ (take 2 (drop (o + 0x06) f) ++ leBytes 4 0)))))
 
 -- the entries of links at some places; the first state is the first link's
-unfoldable pub entriesAt : List ℕ → List ℕ → List ℕ → List ℕ
-entriesAt f [] ss = []
-entriesAt f (o ∷ os) ss = entryAt f o (getD ss 0 0) ++ entriesAt f os (drop 1 ss)
+abbrev pub entriesAt : List ℕ → List ℕ → List ℕ → List ℕ
+entriesAt f = entriesOf (entryAt f)
 
 -- the record's eight bytes before the entries
 unfoldable pub recordHead : ℕ → List ℕ
@@ -52,22 +53,21 @@ length-entryAt f o state h =
 pub inside-tail : (f : List ℕ) (o : ℕ) (os : List ℕ) → Inside f (o ∷ os) → Inside f os
 inside-tail f o os h i k = h (suc i) (omega arith)
 
+-- each entry is as long as an entry is
+all-inside : (f os : List ℕ) → Inside f os → All (λ o. (s : ℕ) → length (entryAt f o s) ≡ entrySize) os
+unfolding All
+all-inside f [] h = tt
+all-inside f (o ∷ os) h = (λ s. length-entryAt f o s (h 0 (omega arith)), all-inside f os (inside-tail f o os h))
+
 pub length-entriesAt : (f os ss : List ℕ) → Inside f os → length (entriesAt f os ss) ≡ entrySize * length os
-unfolding entriesAt
-length-entriesAt f [] ss h = refl
-length-entriesAt f (o ∷ os) ss h =
-    let a = length-entryAt f o (getD ss 0 0) (h 0 (omega arith)) in
-    let b = length-entriesAt f os (drop 1 ss) (inside-tail f o os h) in
-    let c = length-append (entryAt f o (getD ss 0 0)) (entriesAt f os (drop 1 ss)) in
-    omega arith
+length-entriesAt f os ss h = length-entriesOf (entryAt f) entrySize os ss (all-inside f os h)
 
 pub length-recordHead : (c : ℕ) → length (recordHead c) ≡ 8
 unfolding recordHead
 length-recordHead c = simp (length-append, length-leBytes)
 
 pub record-ge : (c : ℕ) → 8 + entrySize * c ≤ recordEnd c
-unfolding recordEnd
-record-ge c = round64-ge (8 + entrySize * c)
+record-ge = recordBy-ge entrySize
 
 pub length-fill : (c : ℕ) → length (fill c) ≡ recordEnd c - (8 + entrySize * c)
 unfolding fill
@@ -86,15 +86,3 @@ unfolding payloadAt payloadLength
 length-payloadAt f os ss offset id h =
     let n = length os in
     simp (length-append, length-recordHead, length-entriesAt f os ss h, length-fill, length-root) (omega (arith, record-ge (length os)))
-
--- ---- one entry more
-
-pub entries-more : (f os ss : List ℕ) (i : ℕ) → i < length os → entriesAt f (take (suc i) os) ss ≡ entriesAt f (take i os) ss ++ entryAt f (getD os i 0) (getD ss i 0)
-unfolding entriesAt
-entries-more f [] ss i h = absurd (omega arith)
-entries-more f (o ∷ os) ss zero h = append-nil (entryAt f o (getD ss 0 0))
-entries-more f (o ∷ os) ss (suc i) h =
-    let e : getD (drop 1 ss) i 0 ≡ getD ss (suc i) 0 = getD-drop 1 ss i 0 ∙ ap (λ (k : ℕ). getD ss k 0) (omega arith) in
-    ap (λ (l : List ℕ). entryAt f o (getD ss 0 0) ++ l) (entries-more f os (drop 1 ss) i (omega arith))
-    ∙ sym (append-assoc (entryAt f o (getD ss 0 0)) (entriesAt f (take i os) (drop 1 ss)) (entryAt f (getD os i 0) (getD (drop 1 ss) i 0)))
-    ∙ ap (λ (s : ℕ). (entryAt f o (getD ss 0 0) ++ entriesAt f (take i os) (drop 1 ss)) ++ entryAt f (getD os i 0) s) e

@@ -15,8 +15,9 @@ use Rattle.octets.specs.Round.{round64}
 use Rattle.le.specs.Le.{leBytes}
 use Rattle.le.specs.Laws.{length-leBytes}
 use Rattle.crc32c.specs.Crc.{crcOf}
+use Rattle.manifest.specs.Sized.{entriesOf, entriesOf-more}
 use Rattle.manifest.specs.Payload.{entrySize, recordEnd, payloadLength, rootBytes, root}
-use Rattle.manifest_write.specs.At.{Inside, entryAt, entriesAt, recordHead, fill, payloadAt, length-entryAt, length-entriesAt, length-recordHead, length-fill, length-rootBytes, length-root, entries-more, record-ge}
+use Rattle.manifest_write.specs.At.{Inside, entryAt, entriesAt, recordHead, fill, payloadAt, length-entryAt, length-entriesAt, length-recordHead, length-fill, length-rootBytes, length-root, record-ge}
 
 -- ---- pieces
 
@@ -71,7 +72,7 @@ pub record EntriesPut (buf₀ buf f os ss : List ℕ) (i : ℕ) : Type 0 where
   pub laid : buf ≡ over buf₀ 8 (entriesAt f (take i os) ss)
 
 pub entries-first : (buf f os ss : List ℕ) → EntriesPut buf buf f os ss 0
-unfolding entriesAt
+unfolding entriesOf
 entries-first buf f os ss = record { few = omega arith; long = refl; laid = sym (over-none buf 8) }
 
 inside-take : (f os : List ℕ) (i : ℕ) → i ≤ length os → Inside f os → Inside f (take i os)
@@ -90,7 +91,7 @@ entries-next buf₀ buf buf′ f os ss i st h t room p q =
       few = omega arith;
       long = omega arith;
       laid =
-          rw (add-one, entries-more f os ss i h)
+          rw (add-one, entriesOf-more (entryAt f) os ss i 0 h)
           (p ∙ over-then buf₀ buf 8 (entriesAt f (take i os) ss) (entryAt f (getD os i 0) (getD ss i 0)) (48 * i) (st .laid) n (omega arith));
     }
 

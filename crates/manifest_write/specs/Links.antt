@@ -14,6 +14,7 @@ use Rattle.chain.specs.Walk.{walk-cons}
 use Rattle.segment.specs.Header.{Link, State, reader, linkAt, size, after}
 use Rattle.segment.specs.Laws.{segment-format, linkFront, Lies, lies, size-least}
 use Rattle.segment.specs.Chained.{chain}
+use Rattle.manifest.specs.Sized.{entriesOf-same}
 use Rattle.manifest.specs.Payload.{entrySize, entryBytes, entries, recordBytes, recordEnd, root, manifestPayload}
 use Rattle.manifest_write.specs.At.{Inside, entryAt, entriesAt, recordHead, fill, payloadAt}
 
@@ -103,15 +104,14 @@ lying-inside f [] h i k = absurd (omega arith)
 lying-inside f (l ∷ ls) h zero k = lying-room f l (h .0)
 lying-inside f (l ∷ ls) h (suc i) k = lying-inside f ls (h .1) i (omega arith)
 
+-- an entry copied from the file is that of the link
+all-entries : (f : List ℕ) (ls : List Link) → Bytes f → All (Lying f) ls → All (λ l. (s : ℕ) → entryAt f (l .offset) s ≡ entryBytes l s) ls
+unfolding All
+all-entries f [] t h = tt
+all-entries f (l ∷ ls) t h = (λ s. link-entry f (h .0 .state) (l .offset) l s t (h .0 .at-is) (h .0 .reads), all-entries f ls t (h .1))
+
 pub entries-lying : (f : List ℕ) (ls : List Link) (ss : List ℕ) → Bytes f → All (Lying f) ls → entriesAt f (offsetsOf ls) ss ≡ entries ls ss
-unfolding entriesAt entries All
-entries-lying f [] ss t h = refl
-entries-lying f (l ∷ ls) [] t h =
-    ap (λ (x : List ℕ). x ++ entriesAt f (offsetsOf ls) []) (link-entry f (h .0 .state) (l .offset) l 0 t (h .0 .at-is) (h .0 .reads))
-    ∙ ap (λ (x : List ℕ). entryBytes l 0 ++ x) (entries-lying f ls [] t (h .1))
-entries-lying f (l ∷ ls) (s ∷ ss) t h =
-    ap (λ (x : List ℕ). x ++ entriesAt f (offsetsOf ls) ss) (link-entry f (h .0 .state) (l .offset) l s t (h .0 .at-is) (h .0 .reads))
-    ∙ ap (λ (x : List ℕ). entryBytes l s ++ x) (entries-lying f ls ss t (h .1))
+entries-lying f ls ss t h = entriesOf-same (entryAt f) entryBytes (λ l. l .offset) ls ss (all-entries f ls t h)
 
 pub payload-lying : (f : List ℕ) (ls : List Link) (ss : List ℕ) (offset id : ℕ) → Bytes f → All (Lying f) ls
     → payloadAt f (offsetsOf ls) ss offset id ≡ manifestPayload ls ss offset id

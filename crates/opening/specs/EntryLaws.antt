@@ -24,7 +24,8 @@ use Rattle.segment.specs.Tests.{both}
 use Rattle.segment.specs.Chained.{chain, link-place}
 use Rattle.chain_index.specs.Offsets.{most, noLink, linkNo, Stored, stored-has, stored-few}
 use Rattle.chain_index.specs.Numbered.{Numbered, numbered, numbered-at, number-of}
-use Rattle.manifest.specs.Payload.{manifestKind, statesHeld, confirmed, manifestPayload, payloadLength, recordEnd, statesIn}
+use Rattle.manifest.specs.Sized.{statesBy-at}
+use Rattle.manifest.specs.Payload.{manifestKind, entrySize, statesHeld, confirmed, manifestPayload, payloadLength, recordEnd, statesIn}
 use Rattle.manifest.specs.Opening.{opened, states}
 use Rattle.manifest_write.specs.At.{length-payloadAt, record-ge}
 use Rattle.manifest_write.specs.Links.{offsetsOf, lying-inside, payload-lying, chain-lying}
@@ -34,15 +35,6 @@ use Rattle.opening.specs.declared.DirectoryEntry.{DirectoryEntry}
 use Rattle.opening.specs.declared.DirectoryEntry.the-variants.{Of, NoEntry, Refused as EntryRefused}
 use Rattle.opening.specs.Opened.{foundCase, bounded}
 use Rattle.opening.specs.Entry.{entryIn, entryOf, entryAt}
-
--- ---- the states in a directory's bytes
-
-pub states-at : (n : ℕ) (e : List ℕ) (i : ℕ) → i < n → getD (statesIn n e) i 0 ≡ getD e (48 * i + 41) 0
-unfolding statesIn
-states-at zero e i h = absurd (omega arith)
-states-at (suc n) e zero h = refl
-states-at (suc n) e (suc i) h =
-    states-at n (drop 48 e) i (omega arith) ∙ getD-drop 48 e (48 * i + 41) 0 ∙ ap (λ (k : ℕ). getD e k 0) (omega arith)
 
 -- ---- what is found
 
@@ -158,7 +150,7 @@ module _ (f offsets : List ℕ) (n offset count : ℕ) (t : Bytes f) (s : Stored
     unfolding states
     state-is =
         let a = entries-inside in
-        states-at (length b) (drop 8 (l .payload)) i (omega (arith, m .count-is))
+        statesBy-at entrySize (length b) (drop 8 (l .payload)) i (omega (arith, m .count-is))
         ∙ getD-drop 8 (l .payload) (48 * i + 41) 0
         ∙ ap (λ (x : List ℕ). getD x (8 + (48 * i + 41)) 0) (manifest-numbered .payload-is)
         ∙ getD-take (length (l .payload)) (drop (offset + 64) f) (8 + (48 * i + 41)) 0 (omega arith)

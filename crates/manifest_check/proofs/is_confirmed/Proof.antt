@@ -6,6 +6,7 @@ use native.Mathlib.Omega.{arith}
 use lib.ListN.{length, take, length-replicate}
 use lib.Seq.{length-take-le}
 use Rattle.octets.specs.Round.{round64}
+use Rattle.manifest.specs.Sized.{recordBy}
 use Rattle.manifest.specs.Payload.{payloadLength, recordEnd}
 use Rattle.manifest_check.specs.At.{confirmedAt}
 use Rattle.manifest_check.specs.Steps.{other-kind, too-many, other-length}
@@ -36,7 +37,7 @@ unfolding round64
 add-if3 c = omega (arith, c .round-up .ensures)
 
 returns-3 : tie.Need-returns-3
-unfolding payloadLength recordEnd
+unfolding payloadLength recordBy
 returns-3 c =
     let e = length-take-le (c .before .before .before .before .before .before .args .n) (c .before .before .before .before .before .before .args .offsets .now) (c .before .before .before .before .before .before .pre .0 .0) in
     other-length _ _ _ _ _ _ (c .before .before .before .before .before .before .pre .0 .1) (c .before .before .before .before .before .before .pre .1)
@@ -52,7 +53,7 @@ slice-aggregate-confirm-with-3 : tie.Need-slice-aggregate-confirm-with-3
 slice-aggregate-confirm-with-3 c = search needs
 
 confirm-with-requires : tie.Need-confirm-with-requires
-unfolding payloadLength recordEnd round64
+unfolding payloadLength recordBy round64
 confirm-with-requires c κs =
     let e : length (take (c .before .before .before .before .before .before .before .before .before .args .n) (c .before .before .before .before .before .before .before .before .before .args .offsets .now)) ≡ c .before .before .before .before .before .before .before .before .before .args .n = length-take-le (c .before .before .before .before .before .before .before .before .before .args .n) (c .before .before .before .before .before .before .before .before .before .args .offsets .now) (c .before .before .before .before .before .before .before .before .before .pre .0 .0) in
     let r = c .before .before .before .before .round-up .ensures in

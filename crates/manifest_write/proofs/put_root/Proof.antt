@@ -6,6 +6,7 @@ use native.Mathlib.Omega.{arith}
 use lib.ListN.{length}
 use lib.Seq.{length-take-le}
 use Rattle.octets.specs.Round.{round64}
+use Rattle.manifest.specs.Sized.{recordBy}
 use Rattle.manifest.specs.Payload.{payloadLength, recordEnd}
 use Rattle.manifest_write.specs.Laid.{fields-laid, root-laid}
 use borrow.Author.Needs.{needs}
@@ -13,30 +14,30 @@ use Rattle.manifest_write.proofs.put_root.Statement.{statement}
 use Rattle.manifest_write.proofs.put_root.Tie as tie
 
 mul-long : tie.Need-mul-long
-unfolding payloadLength recordEnd round64
+unfolding payloadLength recordBy round64
 mul-long c = omega (arith, c .before .pre .1)
 
 add-long : tie.Need-add-long
-unfolding payloadLength recordEnd round64
+unfolding payloadLength recordBy round64
 add-long c = omega (arith, c .before .pre .1)
 
 round-up-requires : tie.Need-round-up-requires
-unfolding payloadLength recordEnd round64
+unfolding payloadLength recordBy round64
 round-up-requires c κs = omega (arith, c .before .pre .1)
 
 add-round-up : tie.Need-add-round-up
-unfolding payloadLength recordEnd round64
+unfolding payloadLength recordBy round64
 add-round-up c = omega (arith, c .before .before .pre .1, c .round-up .ensures)
 
 round-up-requires-2 : tie.Need-round-up-requires-2
-unfolding payloadLength recordEnd round64
+unfolding payloadLength recordBy round64
 round-up-requires-2 c κs = omega (arith, c .before .before .pre .1, c .round-up .ensures)
 
 add-end : tie.Need-add-end
 add-end c = search needs
 
 add-end-2 : tie.Need-add-end-2
-unfolding payloadLength recordEnd round64
+unfolding payloadLength recordBy round64
 add-end-2 c = omega (arith, c .before .before .before .pre .1, c .before .round-up .ensures, c .round-up2 .ensures)
 
 slice-aggregate-copy : tie.Need-slice-aggregate-copy
@@ -94,7 +95,7 @@ same-length c =
     c .before .before .put7 .kept .0 ∙ c .before .before .before .before .before .before .before .before .clear-part .kept .0 ∙ c .before .before .before .before .before .before .before .before .before .before .before .before .put6 .kept .0 ∙ c .before .before .before .before .before .before .before .before .before .before .before .before .before .before .before .before .put5 .kept .0 ∙ c .before .before .before .before .before .before .before .before .before .before .before .before .before .before .before .before .before .before .before .before .put4 .kept .0 ∙ c .before .before .before .before .before .before .before .before .before .before .before .before .before .before .before .before .before .before .before .before .before .before .before .before .put3 .kept .0 ∙ c .before .before .before .before .before .before .before .before .before .before .before .before .before .before .before .before .before .before .before .before .before .before .before .before .before .before .before .before .put2 .kept .0 ∙ c .before .before .before .before .before .before .before .before .before .before .before .before .before .before .before .before .before .before .before .before .before .before .before .before .before .before .before .before .before .before .before .before .put .kept .0 ∙ c .before .before .before .before .before .before .before .before .before .before .before .before .before .before .before .before .before .before .before .before .before .before .before .before .before .before .before .before .before .before .before .before .before .before .before .before .copy .kept .0
 
 returns : tie.Need-returns
-unfolding payloadLength recordEnd
+unfolding payloadLength recordBy
 returns c =
     root-laid (c .before .before .before .before .before .before .before .before .before .before .before .before .before .before .before .before .before .before .before .before .before .before .before .before .before .before .before .before .before .before .before .before .before .before .before .before .before .before .before .before .before .before .args .buf .now) (c .before .before .before .before .before .before .before .before .before .before .before .before .before .before .before .before .before .before .before .before .before .before .before .before .before .before .before .before .before .before .before .before .before .before .before .before .before .before .before .before .before .before .args .c) (c .before .before .before .before .before .before .before .before .before .before .before .before .before .before .before .before .before .before .before .before .before .before .before .before .before .before .before .before .before .before .before .before .before .before .before .before .before .before .before .before .before .before .args .offset) (c .before .before .before .before .before .before .before .before .before .before .before .before .before .before .before .before .before .before .before .before .before .before .before .before .before .before .before .before .before .before .before .before .before .before .before .before .before .before .before .before .before .before .args .id) (c .before .before .before .before .before .before .before .before .before .before .before .before .before .before .before .before .before .before .before .before .before .before .before .before .before .before .before .before .before .before .before .before .before .before .before .before .before .before .before .before .before .before .pre .0) _ _ _
     (fields-laid (c .before .before .before .before .before .before .before .before .before .before .before .before .before .before .before .before .before .before .before .before .before .before .before .before .before .before .before .before .before .before .before .before .before .before .before .before .before .before .before .before .before .before .args .buf .now) (c .before .before .before .before .before .before .before .before .before .before .before .before .before .before .before .before .before .before .before .before .before .before .before .before .before .before .before .before .before .before .before .before .before .before .before .before .before .before .before .before .before .before .args .c) (c .before .before .before .before .before .before .before .before .before .before .before .before .before .before .before .before .before .before .before .before .before .before .before .before .before .before .before .before .before .before .before .before .before .before .before .before .before .before .before .before .before .before .args .offset) (c .before .before .before .before .before .before .before .before .before .before .before .before .before .before .before .before .before .before .before .before .before .before .before .before .before .before .before .before .before .before .before .before .before .before .before .before .before .before .before .before .before .before .args .id) (c .before .before .before .before .before .before .before .before .before .before .before .before .before .before .before .before .before .before .before .before .before .before .before .before .before .before .before .before .before .before .before .before .before .before .before .before .before .before .before .before .before .before .pre .0) _ _ _ _ _ _ _ _ _ _ (omega arith)

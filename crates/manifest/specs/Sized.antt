@@ -1,0 +1,93 @@
+-- A directory for entries of any size and form: the entries one after the other, the states read off them, the length of their record. The
+-- laws hold for every size, so that another form of an entry needs none of its own.
+-- Assumes nothing.
+use Prim.Native.Nat.{ℕ, zero, suc, _+_, _*_, _≤_, _<_}
+use mathlib.Core.Path.{_≡_, refl, sym, ap, _∙_}
+use mathlib.Core.List.{List, [], _∷_, _++_, append-nil, append-assoc, map}
+use native.Mathlib.Omega.{arith}
+use native.Mathlib.Nat.{mul-zero, mul-suc, zero-add}
+use lib.ListN.{length, take, drop, getD, length-append}
+use lib.Seq.{getD-drop}
+use Rattle.octets.specs.Round.{round64, round64-ge}
+use Rattle.chain.specs.Chain.{All}
+
+-- entries one after the other; the first state is the first one's
+unfoldable pub entriesOf : {X : Type 0} → (X → ℕ → List ℕ) → List X → List ℕ → List ℕ
+entriesOf g [] ss = []
+entriesOf g (x ∷ xs) ss = g x (getD ss 0 0) ++ entriesOf g xs (drop 1 ss)
+
+-- the states of n entries of a size, read off the bytes of a directory: byte 41 of each entry
+unfoldable pub statesBy : ℕ → ℕ → List ℕ → List ℕ
+statesBy size zero e = []
+statesBy size (suc n) e = getD e 41 0 ∷ statesBy size n (drop size e)
+
+-- the record of c entries of a size takes so many bytes, its fill included
+unfoldable pub recordBy : ℕ → ℕ → ℕ
+recordBy size c = round64 (8 + size * c)
+
+-- ---- entries
+
+module _ {X : Type 0} (g : X → ℕ → List ℕ) where
+  pub length-entriesOf : (size : ℕ) (xs : List X) (ss : List ℕ) → All (λ x. (s : ℕ) → length (g x s) ≡ size) xs
+      → length (entriesOf g xs ss) ≡ size * length xs
+  unfolding entriesOf All
+  length-entriesOf size [] ss h = sym (mul-zero size)
+  length-entriesOf size (x ∷ xs) ss h =
+      let a : length (g x (getD ss 0 0)) ≡ size = h .0 (getD ss 0 0) in
+      let b : length (entriesOf g xs (drop 1 ss)) ≡ size * length xs = length-entriesOf size xs (drop 1 ss) (h .1) in
+      let c = length-append (g x (getD ss 0 0)) (entriesOf g xs (drop 1 ss)) in
+      let d = mul-suc size (length xs) in
+      omega arith
+
+  -- one entry more
+  pub entriesOf-more : (xs : List X) (ss : List ℕ) (i : ℕ) (none : X) → i < length xs
+      → entriesOf g (take (suc i) xs) ss ≡ entriesOf g (take i xs) ss ++ g (getD xs i none) (getD ss i 0)
+  unfolding entriesOf
+  entriesOf-more [] ss i none h = absurd (omega arith)
+  entriesOf-more (x ∷ xs) ss zero none h = append-nil (g x (getD ss 0 0))
+  entriesOf-more (x ∷ xs) ss (suc i) none h =
+      let e : getD (drop 1 ss) i 0 ≡ getD ss (suc i) 0 = getD-drop 1 ss i 0 ∙ ap (λ (k : ℕ). getD ss k 0) (omega arith) in
+      ap (λ (l : List ℕ). g x (getD ss 0 0) ++ l) (entriesOf-more xs (drop 1 ss) i none (omega arith))
+      ∙ sym (append-assoc (g x (getD ss 0 0)) (entriesOf g (take i xs) (drop 1 ss)) (g (getD xs i none) (getD (drop 1 ss) i 0)))
+      ∙ ap (λ (s : ℕ). (g x (getD ss 0 0) ++ entriesOf g (take i xs) (drop 1 ss)) ++ g (getD xs i none) s) e
+
+-- two forms that give the same bytes
+pub entriesOf-same : {X Y : Type 0} (g : X → ℕ → List ℕ) (h : Y → ℕ → List ℕ) (r : Y → X) (ys : List Y) (ss : List ℕ)
+    → All (λ y. (s : ℕ) → g (r y) s ≡ h y s) ys → entriesOf g (map r ys) ss ≡ entriesOf h ys ss
+unfolding entriesOf All
+entriesOf-same g h r [] ss t = refl
+entriesOf-same g h r (y ∷ ys) ss t =
+    ap (λ (x : List ℕ). x ++ entriesOf g (map r ys) (drop 1 ss)) (t .0 (getD ss 0 0))
+    ∙ ap (λ (x : List ℕ). h y (getD ss 0 0) ++ x) (entriesOf-same g h r ys (drop 1 ss) (t .1))
+
+-- ---- states
+
+module _ (size : ℕ) where
+  pub length-statesBy : (n : ℕ) (e : List ℕ) → length (statesBy size n e) ≡ n
+  unfolding statesBy
+  length-statesBy zero e = refl
+  length-statesBy (suc n) e = ap suc (length-statesBy n (drop size e))
+
+  -- byte 41 of the next entry
+  next : (e : List ℕ) (i : ℕ) → getD (drop size e) (size * i + 41) 0 ≡ getD e (size * suc i + 41) 0
+  next e i = getD-drop size e (size * i + 41) 0 ∙ ap (λ (k : ℕ). getD e k 0) (let d = mul-suc size i in omega arith)
+
+  first : (e : List ℕ) → getD e 41 0 ≡ getD e (size * 0 + 41) 0
+  first e = ap (λ (k : ℕ). getD e (k + 41) 0) (sym (mul-zero size))
+
+  pub statesBy-more : (i : ℕ) (e : List ℕ) → statesBy size (suc i) e ≡ statesBy size i e ++ (getD e (size * i + 41) 0 ∷ [])
+  unfolding statesBy
+  statesBy-more zero e = ap (λ (b : ℕ). b ∷ []) (first e)
+  statesBy-more (suc i) e =
+      ap (λ (x : List ℕ). getD e 41 0 ∷ x) (statesBy-more i (drop size e))
+      ∙ ap (λ (b : ℕ). getD e 41 0 ∷ (statesBy size i (drop size e) ++ (b ∷ []))) (next e i)
+
+  pub statesBy-at : (n : ℕ) (e : List ℕ) (i : ℕ) → i < n → getD (statesBy size n e) i 0 ≡ getD e (size * i + 41) 0
+  unfolding statesBy
+  statesBy-at zero e i h = absurd (omega arith)
+  statesBy-at (suc n) e zero h = first e
+  statesBy-at (suc n) e (suc i) h = statesBy-at n (drop size e) i (omega arith) ∙ next e i
+
+  pub recordBy-ge : (c : ℕ) → 8 + size * c ≤ recordBy size c
+  unfolding recordBy
+  recordBy-ge c = round64-ge (8 + size * c)
