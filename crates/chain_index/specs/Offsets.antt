@@ -15,16 +15,12 @@ use Rattle.segment.specs.declared.Step.the-variants.{Sound, Stop}
 use Rattle.segment.specs.Header.{Link, reader}
 use Rattle.segment.specs.Laws.{size-least}
 use Rattle.segment.specs.Step.{stepAt}
-use Rattle.segment.specs.Chained.{chain, link-place, ChainAt, chain-first, chain-next, chain-link, chain-stop, chain-count, step-link}
+use Rattle.segment.specs.Chained.{chain, offsetsOf, link-place, ChainAt, chain-first, chain-next, chain-link, chain-stop, chain-count, step-link}
 use Rattle.segment.specs.Search.{sizes-aligned}
 
 -- so many links can matter
 abbrev pub most : ℕ
 most = maxEntries + 1
-
-unfoldable pub offsetsOf : List Link → List ℕ
-offsetsOf [] = []
-offsetsOf (l ∷ ls) = l .offset ∷ offsetsOf ls
 
 -- the first n numbers of a list are the offsets of the links that can matter, and n is how many these are
 pub record Stored (f offsets : List ℕ) (n : ℕ) : Type 0 where
@@ -42,12 +38,10 @@ linkNo f i = getD (chain f) i noLink
 -- ---- lists of links
 
 pub offsets-append : (ls ms : List Link) → offsetsOf (ls ++ ms) ≡ offsetsOf ls ++ offsetsOf ms
-unfolding offsetsOf
 offsets-append [] ms = refl
 offsets-append (l ∷ ls) ms = ap (λ (r : List ℕ). l .offset ∷ r) (offsets-append ls ms)
 
 offsets-at : (ls : List Link) (i : ℕ) → i < length ls → getD (offsetsOf ls) i 0 ≡ getD ls i noLink .offset
-unfolding offsetsOf
 offsets-at [] i h = absurd (omega arith)
 offsets-at (l ∷ ls) zero h = refl
 offsets-at (l ∷ ls) (suc i) h = offsets-at ls i (omega arith)
@@ -102,7 +96,6 @@ pub record CollectAt (f : List ℕ) (n at : ℕ) (first : Bool) (prev : ℕ) (of
   pub stored : take n offsets ≡ offsetsOf (take n (chain f))
 
 pub collect-first : (f : List ℕ) (prev : ℕ) (offsets : List ℕ) → CollectAt f 0 0 true prev offsets
-unfolding offsetsOf
 collect-first f prev offsets = record { walked = chain-first f prev; few = omega arith; stored = refl }
 
 module _ (f : List ℕ) (n at : ℕ) (first : Bool) (prev : ℕ) (offsets : List ℕ) (c : CollectAt f n at first prev offsets) where
@@ -128,7 +121,6 @@ module _ (f : List ℕ) (n at : ℕ) (first : Bool) (prev : ℕ) (offsets : List
   -- one link more
   pub collect-next : (end id len kind flags : ℕ) → stepAt f at first prev ≡ Sound end id len kind flags → n < most → n < length offsets
       → CollectAt f (n + 1) end false id (set offsets n at)
-  unfolding offsetsOf
   collect-next end id len kind flags e h k =
       let s = step-link f at first prev end id len kind flags e in
       record {

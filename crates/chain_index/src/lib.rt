@@ -2,8 +2,8 @@
 ghost use mathlib.Core.Path.{_≡_};
 ghost use Prim.Native.Nat.{_≤_};
 ghost use lib.ListN.{length, take};
-ghost use Rattle.segment.specs.Chained.{chain};
-ghost use Rattle.chain_index.specs.Offsets.{most, offsetsOf};
+ghost use Rattle.segment.specs.Chained.{chain, offsetsOf};
+ghost use Rattle.chain_index.specs.Offsets.{most};
 use segment::Step;
 
 // How many links can matter: a manifest has at most limits::MAX_ENTRIES before it.

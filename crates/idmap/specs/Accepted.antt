@@ -1,16 +1,16 @@
 -- An input that the id-map writer accepts: what it says of the ids, and what the map then is, by the encoding.
 -- Assumes nothing.
 use Prim.Native.Nat.{ℕ, _+_, _≤_, _<_}
-use mathlib.Core.Path.{_≡_, refl, sym, ap, _∙_}
+use mathlib.Core.Path.{_≡_, refl}
 use mathlib.Core.Bool.{Bool, true, false, cond, _&&_}
 use mathlib.Core.List.{List, _++_}
 use native.Mathlib.Omega.{arith}
 use lib.Dec.{eqb, leb, ltb}
 use lib.ListN.{length}
 use borrow.Author.Tests.{ne-eqb, leb-true, ltb-true, eqb-true, eqb-false}
-use Rattle.limits.specs.Limits.{maxVectors, defaultInterval}
+use Rattle.limits.specs.Limits.{maxVectors}
 use Rattle.idmap.specs.Encode.{mapHead, rawIds, deltas, restarts, intervalOf, mapBytes, risesFrom, intervalHeld, mapBad}
-use Rattle.idmap.specs.EncodeLaws.{and-true}
+use Rattle.octets.specs.Zero.{and-split}
 
 pub record Good (ids : List ℕ) (encoding interval : ℕ) : Type 0 where
   pub one : 1 ≤ length ids
@@ -26,16 +26,16 @@ good ids encoding interval e = pick (leb 1 (length ids) && leb (length ids) maxV
         → (encoding ≡ 1) × (interval < 65536)
     delta-held true p q n = absurd (n (eqb-true encoding 0 p))
     delta-held false p q n =
-        let w = and-true (eqb encoding 1) (ltb interval 65536) q in
+        let w = and-split (eqb encoding 1) (ltb interval 65536) q in
         (eqb-true encoding 1 (w .0), ltb-true interval 65536 (w .1))
 
     pick : (t : Bool) → leb 1 (length ids) && leb (length ids) maxVectors && intervalHeld encoding interval && risesFrom 0 ids ≡ t → _≡_ {A = ℕ} (cond t 0 14) 0
         → Good ids encoding interval
     pick false p q = absurd (omega arith)
     pick true p q =
-        let a = and-true _ _ p in
-        let b = and-true _ _ (a .0) in
-        let d = and-true _ _ (b .0) in
+        let a = and-split _ _ p in
+        let b = and-split _ _ (a .0) in
+        let d = and-split _ _ (b .0) in
         record {
           one = leb-true 1 (length ids) (d .0);
           most = leb-true (length ids) 4096 (d .1);

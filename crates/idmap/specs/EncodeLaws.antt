@@ -1,17 +1,17 @@
 -- Laws of the id map as it is written: lengths, and where the writing loops stand.
 -- Assumes nothing.
-use Prim.Native.Nat.{ℕ, zero, suc, _+_, _-_, _*_, _/_, _^_, _≤_, _<_}
+use Prim.Native.Nat.{ℕ, zero, suc, _+_, _-_, _*_, _/_, _≤_, _<_}
 use mathlib.Core.Path.{_≡_, refl, sym, ap, _∙_}
-use mathlib.Core.Bool.{Bool, true, false, cond, _&&_}
+use mathlib.Core.Bool.{true, _&&_}
 use mathlib.Core.List.{List, [], _∷_, _++_, append-assoc, append-nil}
-use native.Mathlib.Nat.{add-div-right, div-eq-of-lt, add-zero}
+use native.Mathlib.Nat.{add-div-right, div-eq-of-lt}
 use native.Mathlib.Numerals.{add-one}
 use native.Mathlib.Omega.{arith}
-use lib.Dec.{eqb, leb, ltb}
+use lib.Dec.{leb}
 use lib.ListN.{length, getD, take, drop, length-append, drop-of-length-le}
-use lib.Seq.{drop-cons, take-suc, length-take-le, take-all}
+use lib.Seq.{drop-cons, take-suc}
 use borrow.Author.Tests.{leb-true}
-use Rattle.octets.specs.Over.{over, over-none, over-then, over-swap, over-next, length-over}
+use Rattle.octets.specs.Zero.{and-split}
 use Rattle.le.specs.Le.{leBytes}
 use Rattle.le.specs.Laws.{length-leBytes}
 use Rattle.varint.specs.Varint.{varintOf}
@@ -80,17 +80,13 @@ pub ids-first : (ids : List ℕ) → risesFrom 0 ids ≡ true → IdsAt ids 0 0 
 unfolding lowOf
 ids-first ids h = record { few = omega arith; first = λ z. refl; up = h }
 
-pub and-true : (a b : Bool) → a && b ≡ true → (a ≡ true) × (b ≡ true)
-and-true true b e = (refl, e)
-and-true false b e = absurd (let z : _≡_ {A = ℕ} 0 1 = cc in omega arith)
-
 rises-cons : (low : ℕ) (ids : List ℕ) (i : ℕ) → i < length ids → risesFrom low (drop i ids) ≡ leb low (getD ids i 0) && risesFrom (suc (getD ids i 0)) (drop (suc i) ids)
 unfolding risesFrom
 rises-cons low ids i h = rw (drop-cons ids i 0 h)
 
 module _ (ids : List ℕ) (i left prev : ℕ) (st : IdsAt ids i left prev) (h : i < length ids) where
   parts : (leb (lowOf i prev) (getD ids i 0) ≡ true) × (risesFrom (suc (getD ids i 0)) (drop (suc i) ids) ≡ true)
-  parts = and-true _ _ (sym (rises-cons (lowOf i prev) ids i h) ∙ st .up)
+  parts = and-split _ _ (sym (rises-cons (lowOf i prev) ids i h) ∙ st .up)
 
   pub ids-next : (left′ : ℕ) → IdsAt ids (i + 1) left′ (getD ids i 0)
   ids-next left′ = record { few = omega arith; first = λ z. absurd (omega arith); up = rw (low-more, add-one) (parts .1) }

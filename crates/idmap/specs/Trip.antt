@@ -19,7 +19,8 @@ use Rattle.varint.specs.Trip.{read-varint, varint-short}
 use Rattle.idmap.specs.Encode.{mapHead, rawIds, deltaOf, leftAfter, deltas, restartOf, restarts, intervalOf, mapBytes, risesFrom, intervalHeld, mapBad}
 use Rattle.idmap.specs.Decode.{MapRead, Whole, Broken, readRaw, rawMap, idOf, idHeld, offsBehind, readDeltas, groups, deltaMap, mapBody, mapOf}
 use Rattle.idmap.specs.DeltaLaws.{deltas-next}
-use Rattle.idmap.specs.EncodeLaws.{length-head, length-rawIds, length-restarts, and-true}
+use Rattle.idmap.specs.EncodeLaws.{length-head, length-rawIds, length-restarts}
+use Rattle.octets.specs.Zero.{and-split}
 use Rattle.idmap.specs.Accepted.{Good, good, bytes-raw, bytes-delta, interval-pos}
 
 -- every element fits 64 bits
@@ -42,7 +43,7 @@ raw-trip : (end low : ℕ) (acc xs r : List ℕ) → risesFrom low xs ≡ true �
 unfolding readRaw rawIds risesFrom
 raw-trip end low acc [] r up w = ap (Whole end) (sym (append-nil acc))
 raw-trip end low acc (x ∷ xs) r up w =
-    let u = and-true (leb low x) (risesFrom (suc x) xs) up in
+    let u = and-split (leb low x) (risesFrom (suc x) xs) up in
     let e : leOf (take 8 ((leBytes 8 x ++ rawIds xs) ++ r)) ≡ x = rw (front (leBytes 8 x) (rawIds xs) r 8 (length-leBytes 8 x)) (leOf-leBytes 8 x (w 0)) in
     let f : drop 8 ((leBytes 8 x ++ rawIds xs) ++ r) ≡ rawIds xs ++ r = behind (leBytes 8 x) (rawIds xs) r 8 (length-leBytes 8 x) in
     rw (e, f, u .0) (raw-trip end (suc x) (acc ++ (x ∷ [])) xs r (u .1) (words-tail x xs w) ∙ ap (Whole end) (append-assoc acc (x ∷ []) xs))
@@ -86,7 +87,7 @@ delta-trip start r left low prev at acc [] o s up w k small =
     let e : start + at ≡ start + at + 0 = omega arith in
     rw (append-nil acc, ← e)
 delta-trip start r left low prev at acc (x ∷ xs) o s up w k small =
-    let u = and-true (leb low x) (risesFrom (suc x) xs) up in
+    let u = and-split (leb low x) (risesFrom (suc x) xs) up in
     let d : ℕ = deltaOf left prev x in
     let n : ℕ = length (varintOf (deltaOf left prev x)) in
     let tail : List ℕ = deltas r (leftAfter r left) x xs in

@@ -1,24 +1,23 @@
 -- The test by the file alone is the definition, for a link of the chain and the places of those before it.
 -- Assumes nothing.
-use Prim.Native.Nat.{ℕ, _+_, _≤_}
+use Prim.Native.Nat.{ℕ, _+_}
 use mathlib.Core.Path.{_≡_, refl, sym, ap, subst, _∙_}
 use mathlib.Core.Bool.{Bool, _&&_}
 use mathlib.Core.Option.{some}
-use mathlib.Core.List.{List, [], _∷_, _++_}
-use native.Mathlib.Omega.{arith}
+use mathlib.Core.List.{List, [], _∷_}
 use lib.ListN.{length, take, drop, getD, length-map}
 use lib.Seq.{drop-drop, getD-drop}
 use Rattle.le.specs.Le.{Bytes}
-use Rattle.chain.specs.Chain.{All, afters, sizes}
+use Rattle.chain.specs.Chain.{All, afters}
 use Rattle.chain.specs.Walk.{walk-at}
-use Rattle.segment.specs.Header.{Link, State, start, reader, linkAt, whole}
+use Rattle.segment.specs.Header.{Link, start, reader, linkAt, whole}
 use Rattle.segment.specs.Laws.{segment-format, linkFront, Lies, lies}
 use Rattle.segment.specs.Step.{wholeAt, whole-link}
-use Rattle.segment.specs.Chained.{chain, link-place}
+use Rattle.segment.specs.Chained.{offsetsOf, link-place}
 use Rattle.segment.specs.Search.{Placed}
 use Rattle.manifest.specs.Payload.{stateHeld, statesHeld, statesIn, manifestPayload, confirmed}
 use Rattle.manifest_write.specs.At.{Inside, payloadAt}
-use Rattle.manifest_write.specs.Links.{Lying, offsetsOf, lying-inside, payload-lying, chain-lying}
+use Rattle.manifest_write.specs.Links.{Lying, lying-inside, payload-lying, chain-lying}
 use Rattle.manifest_check.specs.At.{stateOf, statesHeldAt, payloadIn, statesOf, verdict, confirmedAt}
 
 -- the type that stands in a link's header

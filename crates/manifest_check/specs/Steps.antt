@@ -1,23 +1,21 @@
 -- The steps of the test: the states read off a payload, each state held, and the ways out.
 -- Assumes nothing.
-use Prim.Native.Nat.{ℕ, zero, suc, _+_, _-_, _*_, _≤_, _<_}
+use Prim.Native.Nat.{ℕ, suc, _+_, _-_, _*_, _≤_, _<_}
 use mathlib.Core.Path.{_≡_, refl, sym, ap, _∙_}
 use mathlib.Core.Bool.{Bool, true, false, _&&_}
-use mathlib.Core.List.{List, [], _∷_, _++_}
+use mathlib.Core.List.{List}
 use native.Mathlib.Numerals.{add-one}
 use native.Mathlib.Omega.{arith}
-use lib.Dec.{eqb, leb}
 use lib.ListN.{length, take, drop, getD, set, length-set, length-drop, drop-of-length-le}
 use lib.Seq.{drop-cons, getD-drop, length-take-le}
 use borrow.Author.Tests.{ne-eqb, lt-leb, le-leb}
 use Rattle.octets.specs.Over.{over, over-none, over-front, over-at}
 use Rattle.octets.specs.Round.{round64}
 use Rattle.octets.specs.Zero.{sameBytes, same-length}
-use Rattle.limits.specs.Limits.{maxEntries}
 use Rattle.segment.specs.Tests.{second-fails}
 use Rattle.segment.specs.Step.{wholeAt}
 use Rattle.manifest.specs.Sized.{recordBy, statesBy, length-statesBy, statesBy-more}
-use Rattle.manifest.specs.Payload.{entrySize, statesIn, recordEnd, payloadLength}
+use Rattle.manifest.specs.Payload.{entrySize, statesIn, payloadLength}
 use Rattle.manifest_write.specs.At.{Inside, payloadAt, length-payloadAt, record-ge}
 use Rattle.manifest_check.specs.At.{stateOf, statesHeldAt, payloadIn, statesOf, confirmedAt}
 

@@ -1,14 +1,12 @@
 -- A manifest's payload by the file alone: a link's header stands in the file, so its entry is copied from there, and the places of the links with
 -- their states say the whole payload. And how long each part is.
 -- Assumes nothing.
-use Prim.Native.Nat.{ℕ, zero, suc, _+_, _-_, _*_, _≤_, _<_}
-use mathlib.Core.Path.{_≡_, refl, sym, ap, _∙_}
-use mathlib.Core.List.{List, [], _∷_, _++_, append-assoc, append-nil}
+use Prim.Native.Nat.{ℕ, suc, _+_, _-_, _*_, _≤_, _<_}
+use mathlib.Core.Path.{_≡_}
+use mathlib.Core.List.{List, [], _∷_, _++_}
 use native.Mathlib.Omega.{arith}
-use native.Mathlib.Numerals.{add-one}
 use lib.ListN.{length, take, drop, getD, replicate, length-append, length-drop, length-replicate}
-use lib.Seq.{length-take-le, getD-drop}
-use Rattle.octets.specs.Round.{round64, round64-ge}
+use lib.Seq.{length-take-le}
 use Rattle.le.specs.Le.{leBytes}
 use Rattle.le.specs.Laws.{length-leBytes}
 use Rattle.chain.specs.Chain.{All}

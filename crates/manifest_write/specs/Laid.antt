@@ -1,12 +1,12 @@
 -- What the steps of writing a manifest's payload leave in the buffer: a part of the file, an entry, the entries, the root, the payload.
 -- Assumes nothing.
-use Prim.Native.Nat.{ℕ, suc, _+_, _-_, _*_, _≤_, _<_}
+use Prim.Native.Nat.{ℕ, _+_, _-_, _*_, _≤_, _<_}
 use mathlib.Core.Path.{_≡_, refl, sym, ap, _∙_}
 use mathlib.Core.List.{List, [], _∷_, _++_, append-assoc}
 use native.Mathlib.Nat.{zero-add}
 use native.Mathlib.Numerals.{add-one}
 use native.Mathlib.Omega.{arith}
-use lib.ListN.{length, take, drop, getD, set, replicate, length-append, length-drop, length-replicate, length-take}
+use lib.ListN.{length, take, drop, getD, set, replicate, length-append, length-drop, length-replicate}
 use lib.Seq.{drop-drop, length-take-le, take-all, getD-take}
 use borrow.Rule.Slice.PartMut.{putMid}
 use Rattle.octets.specs.Over.{over, over-none, over-turn, over-then, over-at, length-over}
@@ -17,7 +17,7 @@ use Rattle.le.specs.Laws.{length-leBytes}
 use Rattle.crc32c.specs.Crc.{crcOf}
 use Rattle.manifest.specs.Sized.{entriesOf, entriesOf-more}
 use Rattle.manifest.specs.Payload.{entrySize, recordEnd, payloadLength, rootBytes, root}
-use Rattle.manifest_write.specs.At.{Inside, entryAt, entriesAt, recordHead, fill, payloadAt, length-entryAt, length-entriesAt, length-recordHead, length-fill, length-rootBytes, length-root, record-ge}
+use Rattle.manifest_write.specs.At.{Inside, entryAt, entriesAt, recordHead, fill, payloadAt, length-entriesAt, length-recordHead, length-fill, length-rootBytes, length-root, record-ge}
 
 -- ---- pieces
 

@@ -1,21 +1,21 @@
 -- The payload by the file alone is the manifest's payload for links that stand in the file, and the links of the chain do.
 -- Assumes nothing.
-use Prim.Native.Nat.{ℕ, zero, suc, _+_, _-_, _*_, _≤_, _<_}
-use mathlib.Core.Path.{_≡_, refl, sym, ap, subst, _∙_}
+use Prim.Native.Nat.{ℕ, zero, suc, _+_, _-_, _≤_}
+use mathlib.Core.Path.{_≡_, sym, ap, subst, _∙_}
 use mathlib.Core.Option.{some}
-use mathlib.Core.List.{List, [], _∷_, _++_, append-assoc, map}
+use mathlib.Core.List.{List, [], _∷_, _++_, append-assoc}
 use native.Mathlib.Omega.{arith}
 use lib.ListN.{length, take, drop, getD, length-drop, length-map}
 use lib.Seq.{drop-drop, take-add, length-take-le, getD-drop}
-use Rattle.le.specs.Le.{leOf, leAt, leBytes, Bytes}
+use Rattle.le.specs.Le.{leAt, leBytes, Bytes}
 use Rattle.le.specs.Laws.{bytes-drop, bytes-take, leBytes-leOf}
 use Rattle.chain.specs.Chain.{All, walk}
 use Rattle.chain.specs.Walk.{walk-cons}
 use Rattle.segment.specs.Header.{Link, State, reader, linkAt, size, after}
 use Rattle.segment.specs.Laws.{segment-format, linkFront, Lies, lies, size-least}
-use Rattle.segment.specs.Chained.{chain}
+use Rattle.segment.specs.Chained.{chain, offsetsOf}
 use Rattle.manifest.specs.Sized.{entriesOf-same}
-use Rattle.manifest.specs.Payload.{entrySize, entryBytes, entries, recordBytes, recordEnd, root, manifestPayload}
+use Rattle.manifest.specs.Payload.{entryBytes, entries, recordBytes, manifestPayload}
 use Rattle.manifest_write.specs.At.{Inside, entryAt, entriesAt, recordHead, fill, payloadAt}
 
 -- a link is read from the file at its own offset
@@ -23,10 +23,6 @@ pub record Lying (f : List ℕ) (l : Link) : Type 0 where
   pub state : State
   pub at-is : state .at ≡ l .offset
   pub reads : linkAt state (drop (l .offset) f) ≡ some l
-
--- where some links stand
-abbrev pub offsetsOf : List Link → List ℕ
-offsetsOf ls = map (λ l. l .offset) ls
 
 -- ---- one entry
 

@@ -25,7 +25,7 @@ sameBytes (x ∷ xs) (y ∷ ys) = eqb x y && sameBytes xs ys
 
 -- ---- what the tests mean
 
-and-split : (a b : Bool) → a && b ≡ true → (a ≡ true) × (b ≡ true)
+pub and-split : (a b : Bool) → a && b ≡ true → (a ≡ true) × (b ≡ true)
 and-split true b e = (refl, e)
 and-split false b e = let z : _≡_ {A = Bool} true false = sym e in (sym z, absurd (true-false z))
   where

@@ -1,26 +1,24 @@
 -- The test of a link by the file alone, for a link by its number and the stored offsets.
 -- Assumes nothing.
-use Prim.Native.Nat.{ℕ, zero, suc, _+_, _≤_, _<_}
+use Prim.Native.Nat.{ℕ, zero, suc, _+_, _<_}
 use mathlib.Core.Path.{_≡_, refl, sym, ap, subst, _∙_}
 use mathlib.Core.Bool.{Bool}
-use mathlib.Core.List.{List, [], _∷_, map}
+use mathlib.Core.List.{List, [], _∷_}
 use native.Mathlib.Omega.{arith}
 use lib.ListN.{length, take, drop, getD}
 use lib.Seq.{take-take}
 use Rattle.le.specs.Le.{leAt, Bytes}
 use Rattle.segment.specs.Header.{Link}
-use Rattle.segment.specs.Chained.{chain}
-use Rattle.chain_index.specs.Offsets.{most, linkNo, Stored, stored-few, offsetsOf as firstOffsets}
+use Rattle.segment.specs.Chained.{chain, offsetsOf}
+use Rattle.chain_index.specs.Offsets.{most, linkNo, Stored, stored-few}
 use Rattle.chain_index.specs.Numbered.{Numbered}
 use Rattle.manifest.specs.Payload.{confirmed}
 use Rattle.manifest_write.specs.At.{Inside}
-use Rattle.manifest_write.specs.Links.{offsetsOf}
 use Rattle.manifest_check.specs.At.{confirmedAt}
 use Rattle.manifest_check.specs.Links.{before-inside, confirmed-at}
 
 -- the offsets of some first links are the first offsets
-first-some : (ls : List Link) (i : ℕ) → offsetsOf (take i ls) ≡ take i (firstOffsets ls)
-unfolding firstOffsets
+first-some : (ls : List Link) (i : ℕ) → offsetsOf (take i ls) ≡ take i (offsetsOf ls)
 first-some ls zero = refl
 first-some [] (suc i) = refl
 first-some (l ∷ ls) (suc i) = ap (λ (xs : List ℕ). l .offset ∷ xs) (first-some ls i)

@@ -1,38 +1,36 @@
 -- What the search has found, and the bytes in which the entry with an index is read: the header at the link's offset, and the state in the
 -- manifest's payload.
 -- Assumes nothing.
-use Prim.Native.Nat.{ℕ, zero, suc, _+_, _-_, _*_, _≤_, _<_}
+use Prim.Native.Nat.{ℕ, _+_, _*_, _≤_, _<_}
 use mathlib.Core.Path.{_≡_, refl, sym, ap, subst, _∙_}
-use mathlib.Core.Bool.{Bool, true, false, cond, _&&_}
+use mathlib.Core.Bool.{true, false, _&&_}
 use mathlib.Core.Option.{Option, none, some}
-use mathlib.Core.List.{List, [], _∷_, _++_}
+use mathlib.Core.List.{List, _∷_}
 use native.Mathlib.Omega.{arith}
 use native.Mathlib.Nat.{lt-of-not-le}
 use native.Mathlib.Decide.{decLe}
 use lib.Dec.{eqb, leb}
 use lib.ListN.{length, take, drop, getD, length-map}
-use lib.Seq.{getD-take, getD-drop, take-take, drop-drop, take-at}
+use lib.Seq.{getD-take, getD-drop, drop-drop}
 use borrow.Author.Tests.{le-leb, lt-leb}
 use Rattle.octets.specs.Parts.{part-front}
-use Rattle.octets.specs.Zero.{sameBytes, same-equal}
+use Rattle.octets.specs.Zero.{same-equal, and-split}
 use Rattle.le.specs.Le.{leOf, leAt, Bytes}
 use Rattle.limits.specs.Limits.{maxEntries}
 use Rattle.chain.specs.Chain.{sizes}
 use Rattle.chain.specs.Last.{Found, openOf, Stands, last-stands}
-use Rattle.segment.specs.Header.{Link, whole, reader, start}
-use Rattle.segment.specs.Tests.{both}
-use Rattle.segment.specs.Chained.{chain, link-place}
+use Rattle.segment.specs.Header.{Link, whole, reader}
+use Rattle.segment.specs.Chained.{chain, offsetsOf, link-place}
 use Rattle.chain_index.specs.Offsets.{most, noLink, linkNo, Stored, stored-has, stored-few}
 use Rattle.chain_index.specs.Numbered.{Numbered, numbered, numbered-at, number-of}
 use Rattle.manifest.specs.Sized.{statesBy-at}
-use Rattle.manifest.specs.Payload.{manifestKind, entrySize, statesHeld, confirmed, manifestPayload, payloadLength, recordEnd, statesIn}
+use Rattle.manifest.specs.Payload.{manifestKind, entrySize, statesHeld, confirmed, manifestPayload, payloadLength, statesIn}
 use Rattle.manifest.specs.Opening.{opened, states}
 use Rattle.manifest_write.specs.At.{length-payloadAt, record-ge}
-use Rattle.manifest_write.specs.Links.{offsetsOf, lying-inside, payload-lying, chain-lying}
-use Rattle.opening.specs.declared.Opened.{Opened}
+use Rattle.manifest_write.specs.Links.{lying-inside, payload-lying, chain-lying}
 use Rattle.opening.specs.declared.Opened.the-variants.{At, NoManifest, Refused}
 use Rattle.opening.specs.declared.DirectoryEntry.{DirectoryEntry}
-use Rattle.opening.specs.declared.DirectoryEntry.the-variants.{Of, NoEntry, Refused as EntryRefused}
+use Rattle.opening.specs.declared.DirectoryEntry.the-variants.{NoEntry, Refused as EntryRefused}
 use Rattle.opening.specs.Opened.{foundCase, bounded}
 use Rattle.opening.specs.Entry.{entryIn, entryOf, entryAt}
 
@@ -78,7 +76,7 @@ confirmed-payload : (b : List Link) (l : Link) → confirmed b l ≡ true
 unfolding confirmed
 confirmed-payload b l e =
     same-equal (l .payload) (manifestPayload b (statesIn (length b) (drop 8 (l .payload))) (l .offset) (l .id))
-    (both (eqb (l .kind) manifestKind && leb (length b) maxEntries && whole l && statesHeld b (statesIn (length b) (drop 8 (l .payload)))) _ e .1)
+    (and-split (eqb (l .kind) manifestKind && leb (length b) maxEntries && whole l && statesHeld b (statesIn (length b) (drop 8 (l .payload)))) _ e .1)
 
 -- where the parts of the entry with index i stand
 pub record EntryRoom (f offsets : List ℕ) (n offset i : ℕ) : Type 0 where

@@ -1,22 +1,19 @@
 -- What opening answers, by cases, and document 01's number and values for each case.
 -- Assumes nothing.
-use Prim.Native.Nat.{ℕ, _+_, _-_, _*_, _/_, _%_, _≤_, _<_}
-use mathlib.Core.Path.{_≡_, refl, sym, ap, _∙_}
+use Prim.Native.Nat.{ℕ, _+_, _-_, _/_, _≤_, _<_}
+use mathlib.Core.Path.{_≡_, refl}
 use mathlib.Core.Bool.{Bool, true, false, cond, _&&_}
 use mathlib.Core.Option.{Option, none, some}
 use mathlib.Core.List.{List, [], _∷_}
-use native.Mathlib.Omega.{arith}
 use lib.Dec.{eqb, leb}
-use lib.ListN.{length, take, drop, getD, set}
+use lib.ListN.{length, drop, set}
 use lib.Seq.{sets}
 use borrow.Author.Tests.{le-leb, lt-leb}
-use Rattle.octets.specs.Round.{round64}
 use Rattle.octets.specs.Zero.{sameBytes}
 use Rattle.answers.specs.Answer.{Answer, Accepted, Refusal, number}
 use Rattle.limits.specs.Limits.{maxFile, maxEntries}
-use Rattle.chain.specs.Last.{Found, openOf}
-use Rattle.segment.specs.Header.{Link, whole, size, start, reader}
-use Rattle.segment.specs.Chained.{chain}
+use Rattle.chain.specs.Last.{Found}
+use Rattle.segment.specs.Header.{Link, whole, size}
 use Rattle.manifest.specs.Payload.{manifestKind, statesHeld, statesIn, manifestPayload, confirmed}
 use Rattle.manifest.specs.Opening.{opened, tried, openFound, openAnswer}
 use Rattle.opening.specs.declared.Opened.{Opened}

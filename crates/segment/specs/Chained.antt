@@ -3,7 +3,7 @@
 use mathlib.Core.Path.{_≡_, refl, sym, ap, _∙_}
 use mathlib.Core.Bool.{Bool, true, false}
 use mathlib.Core.Option.{Option, none, some}
-use mathlib.Core.List.{List, [], _∷_, _++_}
+use mathlib.Core.List.{List, [], _∷_, _++_, map}
 use Prim.Native.Nat.{ℕ, _+_, _-_, _≤_}
 use native.Mathlib.Omega.{arith}
 use lib.ListN.{length, take, drop, length-drop}
@@ -17,6 +17,10 @@ use Rattle.segment.specs.Step.{stateAt, stepOf, stepAt}
 -- the links of a file
 abbrev pub chain : List ℕ → List Link
 chain f = walk reader start f
+
+-- where some links begin
+abbrev pub offsetsOf : List Link → List ℕ
+offsetsOf ls = map (λ l. l .offset) ls
 
 -- ---- a step
 

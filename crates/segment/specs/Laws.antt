@@ -17,7 +17,8 @@ use Rattle.chain.specs.Chain.{Format, walk, afters, sizes}
 use Rattle.chain.specs.Framed.{framed-format, framed-is, cond-some}
 use Rattle.chain.specs.Walk.{walk-each}
 use Rattle.chain.specs.Search.{Aligned}
-use Rattle.segment.specs.Tests.{all-at, both}
+use Rattle.segment.specs.Tests.{all-at}
+use Rattle.octets.specs.Zero.{and-split}
 use Rattle.segment.specs.Header.{Link, State, reader, read, linkAt, linkIn, sizeAt, size, after, sound, headSound, headTests, lengthIn, idIn, kindIn, flagsIn, timestampIn, hashIn}
 
 at-least : (h : List ℕ) → 64 ≤ sizeAt h
@@ -118,7 +119,7 @@ lies st s l e =
     let is : l ≡ linkFront (st .at) s = sym (read-is st (take (size l) s) l (p .reads)) ∙ link-front (st .at) s (size l) (omega arith) in
     let n : length (l .payload) ≡ lengthIn s =
     ap (λ (l : Link). length (l .payload)) is ∙ length-take-le (lengthIn s) (drop 64 s) (simp length-drop (omega arith)) in
-    let a : headSound (st .least) (take 64 (take (size l) s)) ≡ true = both _ _ (read-sound st (take (size l) s) l (p .reads)) .0 in
+    let a : headSound (st .least) (take 64 (take (size l) s)) ≡ true = and-split _ _ (read-sound st (take (size l) s) l (p .reads)) .0 in
     let b : headSound (st .least) (take 64 s) ≡ true = rw (take-take 64 (size l) s (omega arith)) at a in
     record {
       fits = f;

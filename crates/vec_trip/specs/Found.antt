@@ -13,7 +13,7 @@ use borrow.Author.Tests.{eq-eqb, ne-eqb, leb-true}
 use Rattle.le.specs.Le.{leBytes}
 use Rattle.crc32c.specs.Crc.{crcOf}
 use Rattle.idmap.specs.Encode.{mapBytes, risesFrom}
-use Rattle.idmap.specs.EncodeLaws.{and-true}
+use Rattle.octets.specs.Zero.{and-split}
 use Rattle.idmap.specs.Decode.{idsOf}
 use Rattle.idmap.specs.Accepted.{good}
 use Rattle.idmap.specs.Trip.{Words, read-back}
@@ -29,9 +29,9 @@ use Rattle.vec_trip.specs.Sound.{map-at}
 rises-above : (low : ℕ) (xs : List ℕ) (k : ℕ) → risesFrom low xs ≡ true → k < length xs → low ≤ getD xs k 0
 unfolding risesFrom
 rises-above low [] k up h = absurd (omega arith)
-rises-above low (x ∷ xs) zero up h = leb-true low x (and-true (leb low x) (risesFrom (suc x) xs) up .0)
+rises-above low (x ∷ xs) zero up h = leb-true low x (and-split (leb low x) (risesFrom (suc x) xs) up .0)
 rises-above low (x ∷ xs) (suc k) up h =
-    let u = and-true (leb low x) (risesFrom (suc x) xs) up in
+    let u = and-split (leb low x) (risesFrom (suc x) xs) up in
     omega (arith, leb-true low x (u .0), rises-above (suc x) xs k (u .1) (omega arith))
 
 index-at : (low : ℕ) (xs : List ℕ) (k : ℕ) → risesFrom low xs ≡ true → k < length xs → indexOf (getD xs k 0) xs ≡ some k
@@ -39,7 +39,7 @@ unfolding indexOf risesFrom
 index-at low [] k up h = absurd (omega arith)
 index-at low (x ∷ xs) zero up h = rw (eq-eqb x x refl)
 index-at low (x ∷ xs) (suc k) up h =
-    let u = and-true (leb low x) (risesFrom (suc x) xs) up in
+    let u = and-split (leb low x) (risesFrom (suc x) xs) up in
     let above = rises-above (suc x) xs k (u .1) (omega arith) in
     rw (ne-eqb x (getD xs k 0) (λ e. omega arith), index-at (suc x) xs k (u .1) (omega arith))
 

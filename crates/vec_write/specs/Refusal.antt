@@ -11,7 +11,7 @@ use lib.ListN.{length}
 use borrow.Author.Tests.{le-leb, lt-leb, lt-ltb, le-ltb, eq-eqb, ne-eqb, leb-true, ltb-true, eqb-true}
 use Rattle.limits.specs.Limits.{maxDim}
 use Rattle.idmap.specs.Encode.{mapBad}
-use Rattle.idmap.specs.EncodeLaws.{and-true}
+use Rattle.octets.specs.Zero.{and-split}
 use Rattle.idmap.specs.Accepted.{good}
 use Rattle.idmap_write.specs.Ways as map
 use Rattle.vecseg.specs.Payload.{width}
@@ -90,10 +90,10 @@ accepted ids columns dim dtype tier encoding interval ok =
         → cond t (mapBad ids encoding interval) 14 ≡ 0 → Accepted ids columns dim dtype tier encoding interval
     pick false p q = absurd (let z : _≡_ {A = ℕ} 14 0 = q in omega arith)
     pick true p q =
-        let a = and-true _ _ p in
-        let b = and-true _ _ (a .0) in
-        let d = and-true _ _ (b .0) in
-        let e = and-true _ _ (d .0) in
+        let a = and-split _ _ p in
+        let b = and-split _ _ (a .0) in
+        let d = and-split _ _ (b .0) in
+        let e = and-split _ _ (d .0) in
         record {
           held = ltb-true 0 (width dtype) (e .0);
           low = leb-true 1 dim (e .1);

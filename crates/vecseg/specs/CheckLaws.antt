@@ -13,7 +13,8 @@ use Rattle.octets.specs.Round.{round64}
 use Rattle.le.specs.Le.{leOf}
 use Rattle.limits.specs.Limits.{maxBlocks}
 use Rattle.vecseg.specs.Payload.{Line, lineOf, firstOf, linesBad, filled, BlockRead, SoundBlock, BadBlock, blockOf, blocksBad, blockCount, linesEnd, bodyBad, checkOf}
-use Rattle.vecseg.specs.LineLaws.{LineGood, LinesAt, lines-first, lines-good, lines-on, first-none, first-bad, first-zero, and-true}
+use Rattle.vecseg.specs.LineLaws.{LineGood, LinesAt, lines-first, lines-good, lines-on, first-none, first-bad, first-zero}
+use Rattle.octets.specs.Zero.{and-split}
 use Rattle.vecseg.specs.BlockLaws.{BlockGood, block-good, block-number}
 
 -- ---- the ways out
@@ -73,8 +74,8 @@ sound s e = pick (leb 4 (length s) && leb (blockCount s) maxBlocks && leb (lines
         → Sound s
     pick false p q = absurd (omega arith)
     pick true p q =
-        let a = and-true _ _ p in
-        let b = and-true _ _ (a .0) in
+        let a = and-split _ _ p in
+        let b = and-split _ _ (a .0) in
         let f = first-zero (linesBad (blockCount s) (drop 4 s)) _ q in
         record {
           four = leb-true 4 (length s) (b .0);

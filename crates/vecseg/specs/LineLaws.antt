@@ -1,16 +1,17 @@
 -- Laws of the block directory: a line by its bytes in the payload, the ways out of its check, and where a loop over the lines stands.
 -- Assumes nothing.
 use Prim.Native.Nat.{ℕ, zero, suc, _+_, _-_, _*_, _≤_, _<_}
-use mathlib.Core.Path.{_≡_, refl, sym, ap, _∙_}
+use mathlib.Core.Path.{_≡_, refl, sym, _∙_}
 use mathlib.Core.Bool.{Bool, true, false, cond, _&&_, _||_}
 use mathlib.Core.List.{List}
 use native.Mathlib.Nat.{mul-le-mul}
 use native.Mathlib.Omega.{arith}
 use lib.Dec.{eqb, leb, ltb}
-use lib.ListN.{length, getD, take, drop}
+use lib.ListN.{getD, drop}
 use lib.Seq.{drop-drop, getD-drop}
-use borrow.Author.Tests.{le-leb, lt-leb, lt-ltb, le-ltb, eq-eqb, ne-eqb, leb-true, ltb-true, eqb-true, eqb-false}
-use Rattle.le.specs.Le.{leOf, leAt}
+use borrow.Author.Tests.{le-leb, lt-leb, lt-ltb, ne-eqb, leb-true, ltb-true}
+use Rattle.octets.specs.Zero.{and-split}
+use Rattle.le.specs.Le.{leAt}
 use Rattle.limits.specs.Limits.{maxVectors, maxDim}
 use Rattle.vecseg.specs.Payload.{Line, lineOf, width, lineBad, firstOf, linesBad}
 
@@ -105,10 +106,6 @@ pub record LineGood (l : Line) : Type 0 where
   pub few : l .dim ≤ 1024
   pub held : 0 < width (l .dtype)
 
-pub and-true : (a b : Bool) → a && b ≡ true → (a ≡ true) × (b ≡ true)
-and-true true b e = (refl, e)
-and-true false b e = absurd (let z : _≡_ {A = ℕ} 0 1 = cc in omega arith)
-
 pub line-accepted : (l : Line) → lineBad l ≡ 0 → LineGood l
 unfolding lineBad
 line-accepted l e = pick (leb 1 (l .count) && leb (l .count) maxVectors && leb 1 (l .dim) && leb (l .dim) maxDim) (ltb 0 (width (l .dtype))) refl refl e
@@ -118,9 +115,9 @@ line-accepted l e = pick (leb 1 (l .count) && leb (l .count) maxVectors && leb 1
     pick false u p q z = absurd (omega arith)
     pick true false p q z = absurd (omega arith)
     pick true true p q z =
-        let a = and-true _ _ p in
-        let b = and-true _ _ (a .0) in
-        let c = and-true _ _ (b .0) in
+        let a = and-split _ _ p in
+        let b = and-split _ _ (a .0) in
+        let c = and-split _ _ (b .0) in
         record {
           one = leb-true 1 (l .count) (c .0);
           most = leb-true (l .count) 4096 (c .1);

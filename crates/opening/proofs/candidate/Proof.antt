@@ -1,12 +1,9 @@
 -- `opening::candidate` meets its contract.
 -- Assumes nothing.
-use mathlib.Core.Path.{_≡_, refl}
+use mathlib.Core.Path.{refl}
 use native.Mathlib.Omega.{arith}
-use Rattle.le.specs.Le.{Bytes}
 use Rattle.chain_index.specs.Offsets.{stored-few}
-use Rattle.chain_index.specs.Numbered.{Numbered}
 use Rattle.opening.specs.Candidate.{candidate-inside, candidate-is}
-use borrow.Author.Needs.{needs}
 use Rattle.opening.proofs.candidate.Statement.{statement}
 use Rattle.opening.proofs.candidate.Tie as tie
 

@@ -1,12 +1,10 @@
 -- `opening::entry` meets its contract, by its ways out.
 -- Assumes nothing.
-use mathlib.Core.Path.{_≡_, refl, sym, ap, _∙_}
+use mathlib.Core.Path.{sym, _∙_}
 use native.Mathlib.Omega.{arith}
-use lib.ListN.{length, getD}
-use Rattle.le.specs.Le.{Bytes}
 use Rattle.chain_index.specs.Offsets.{Stored}
 use Rattle.opening.specs.Entry.{entry-long, entry-within}
-use Rattle.opening.specs.EntryLaws.{found-not, found-never, ManifestAt, found-manifest, entry-none, EntryRoom, entry-room, entry-is}
+use Rattle.opening.specs.EntryLaws.{found-not, found-never, found-manifest, entry-none, entry-room, entry-is}
 use borrow.Author.Needs.{needs}
 use Rattle.opening.proofs.entry.Statement.{statement}
 use Rattle.opening.proofs.entry.Tie as tie

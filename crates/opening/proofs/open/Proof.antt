@@ -1,9 +1,6 @@
 -- `opening::open` meets its contract.
 -- Assumes nothing.
-use mathlib.Core.Path.{_≡_, refl, sym, ap, _∙_}
 use native.Mathlib.Omega.{arith}
-use lib.ListN.{length}
-use Rattle.chain_index.specs.Offsets.{Stored}
 use Rattle.opening.specs.Opened.{open-long, open-within}
 use borrow.Author.Needs.{needs}
 use Rattle.opening.proofs.open.Statement.{statement}

@@ -1,7 +1,5 @@
 -- `opening::read_entry` meets its contract.
 -- Assumes nothing.
-use mathlib.Core.Path.{_≡_}
-use native.Mathlib.Omega.{arith}
 use Rattle.opening.specs.Entry.{entryAt}
 use borrow.Author.Needs.{needs}
 use Rattle.opening.proofs.read_entry.Statement.{statement}

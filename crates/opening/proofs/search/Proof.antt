@@ -1,13 +1,12 @@
 -- `opening::search` meets its contract, by where the search from the end stands.
 -- Assumes nothing.
-use Prim.Native.Nat.{_+_, _-_, _*_, _/_, _≤_}
-use mathlib.Core.Path.{_≡_, refl, sym, ap, _∙_}
+use Prim.Native.Nat.{_-_, _/_}
+use mathlib.Core.Path.{_≡_, sym, ap, _∙_}
 use native.Mathlib.Omega.{arith}
 use lib.ListN.{length}
 use Rattle.octets.specs.Round.{round64, round64-lt}
 use Rattle.segment.specs.Header.{size}
-use Rattle.chain_index.specs.Offsets.{Stored, stored-few}
-use Rattle.chain_index.specs.Numbered.{Numbered}
+use Rattle.chain_index.specs.Offsets.{stored-few}
 use Rattle.chain_index.specs.Down.{DownAt, down-first, down-skip, down-not, down-found, down-none, down-link}
 use Rattle.manifest.specs.Payload.{confirmed}
 use Rattle.manifest.specs.Opening.{opened}
