@@ -1,20 +1,19 @@
 -- The entry with an index in the directory of the file's manifest.
 -- Assumes nothing.
 use Prim.Native.Nat.{ℕ, _+_, _≤_, _<_}
-use mathlib.Core.Path.{_≡_, refl}
+use mathlib.Core.Path.{_≡_, refl, sym, ap, _∙_}
 use mathlib.Core.Bool.{Bool, true, false, cond}
 use mathlib.Core.Option.{Option, none, some}
 use mathlib.Core.List.{List, [], _∷_}
 use lib.Dec.{leb}
 use lib.ListN.{length, getD}
-use borrow.Author.Tests.{le-leb, lt-leb}
 use Rattle.le.specs.Le.{leAt}
 use Rattle.answers.specs.Answer.{Answer, Accepted, Refusal}
 use Rattle.limits.specs.Limits.{maxFile}
 use Rattle.chain.specs.Last.{Found}
 use Rattle.segment.specs.Header.{Link}
 use Rattle.chain_index.specs.Offsets.{noLink}
-use Rattle.manifest.specs.Opening.{opened, states}
+use Rattle.manifest.specs.Opening.{opened, states, atOpened, at-long, at-within}
 use Rattle.opening.specs.declared.DirectoryEntry.{DirectoryEntry}
 use Rattle.opening.specs.declared.DirectoryEntry.the-variants.{Of, NoEntry, Refused}
 
@@ -30,7 +29,7 @@ entryFound i (some r) = cond (leb (length (r .before)) i) (Refusal 255 []) (Acce
 
 -- 1 for a file above the limit, then 2, then the entry
 unfoldable pub entryAnswer : List ℕ → ℕ → Answer
-entryAnswer f i = cond (leb (length f) maxFile) (entryFound i (opened f)) (Refusal 1 [])
+entryAnswer f i = atOpened (Refusal 1 []) (entryFound i) f
 
 -- ---- the same by cases
 
@@ -53,7 +52,7 @@ entryIn i none = Refused 2
 entryIn i (some r) = cond (leb (length (r .before)) i) NoEntry (entryOf (getD (r .before) i noLink) (getD (states r) i 0))
 
 unfoldable pub entryCase : List ℕ → ℕ → DirectoryEntry
-entryCase f i = cond (leb (length f) maxFile) (entryIn i (opened f)) (Refused 1)
+entryCase f i = atOpened (Refused 1) (entryIn i) f
 
 in-same : (i : ℕ) (o : Option (Found Link)) → entryCaseAnswer (entryIn i o) ≡ entryFound i o
 unfolding entryCaseAnswer entryIn entryFound entryOf entryValues
@@ -67,7 +66,7 @@ in-same i (some r) = pick (leb (length (r .before)) i)
     pick false = refl
 
 pub entry-same : (f : List ℕ) (i : ℕ) → entryCaseAnswer (entryCase f i) ≡ entryAnswer f i
-unfolding entryCase entryAnswer entryCaseAnswer
+unfolding entryCase entryAnswer entryCaseAnswer atOpened
 entry-same f i = pick (leb (length f) maxFile)
   where
     pick : (t : Bool) → entryCaseAnswer (cond t (entryIn i (opened f)) (Refused 1)) ≡ cond t (entryFound i (opened f)) (Refusal 1 [])
@@ -76,10 +75,14 @@ entry-same f i = pick (leb (length f) maxFile)
 
 -- ---- the ways out
 
-pub entry-long : (f : List ℕ) (i : ℕ) → maxFile < length f → Refused 1 ≡ entryCase f i
+pub entry-long : (f : List ℕ) (i n : ℕ) → n ≡ 1 → maxFile < length f → Refused n ≡ entryCase f i
 unfolding entryCase
-entry-long f i h = rw (lt-leb (length f) maxFile h)
+entry-long f i n e h = ap Refused e ∙ sym (at-long (Refused 1) (entryIn i) f h)
+
+pub entry-none : (f : List ℕ) (i : ℕ) → length f ≤ maxFile → opened f ≡ none → Refused 2 ≡ entryCase f i
+unfolding entryCase entryIn
+entry-none f i h e = sym (at-within (Refused 1) (entryIn i) f h ∙ rw e)
 
 pub entry-within : (f : List ℕ) (i : ℕ) (e : DirectoryEntry) → length f ≤ maxFile → e ≡ entryIn i (opened f) → e ≡ entryCase f i
 unfolding entryCase
-entry-within f i e h p = rw (le-leb (length f) maxFile h) p
+entry-within f i e h p = p ∙ sym (at-within (Refused 1) (entryIn i) f h)

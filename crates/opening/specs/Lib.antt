@@ -1,5 +1,6 @@
 -- What opening answers, and the directory's entry with an index.
 pub mod Candidate
 pub mod Opened
+pub mod Directory
 pub mod Entry
 pub mod EntryLaws

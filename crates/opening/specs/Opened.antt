@@ -1,21 +1,21 @@
 -- What opening answers, by cases, and document 01's number and values for each case.
 -- Assumes nothing.
 use Prim.Native.Nat.{ℕ, _+_, _-_, _/_, _≤_, _<_}
-use mathlib.Core.Path.{_≡_, refl}
+use mathlib.Core.Path.{_≡_, refl, sym, _∙_}
 use mathlib.Core.Bool.{Bool, true, false, cond, _&&_}
 use mathlib.Core.Option.{Option, none, some}
 use mathlib.Core.List.{List, [], _∷_}
 use lib.Dec.{eqb, leb}
 use lib.ListN.{length, drop, set}
 use lib.Seq.{sets}
-use borrow.Author.Tests.{le-leb, lt-leb}
+use borrow.Author.Tests.{lt-leb}
 use Rattle.octets.specs.Zero.{sameBytes}
 use Rattle.answers.specs.Answer.{Answer, Accepted, Refusal, number}
 use Rattle.limits.specs.Limits.{maxFile, maxEntries}
 use Rattle.chain.specs.Last.{Found}
 use Rattle.segment.specs.Header.{Link, whole, size}
 use Rattle.manifest.specs.Payload.{manifestKind, statesHeld, statesIn, manifestPayload, confirmed}
-use Rattle.manifest.specs.Opening.{opened, tried, openFound, openAnswer}
+use Rattle.manifest.specs.Opening.{opened, tried, openFound, openAnswer, atOpened, at-long, at-within}
 use Rattle.opening.specs.declared.Opened.{Opened}
 use Rattle.opening.specs.declared.Opened.the-variants.{At, NoManifest, Refused}
 
@@ -38,7 +38,7 @@ foundCase f none = NoManifest (tried f none)
 foundCase f (some r) = At (r .link .offset) (r .link .offset + size (r .link)) (r .link .id) (length (r .before)) (tried f (some r))
 
 unfoldable pub openedCase : List ℕ → Opened
-openedCase f = cond (leb (length f) maxFile) (foundCase f (opened f)) (Refused 1)
+openedCase f = atOpened (Refused 1) (foundCase f) f
 
 -- the two say the same
 found-same : (f : List ℕ) (o : Option (Found Link)) → openedAnswer (foundCase f o) ≡ openFound f o
@@ -47,7 +47,7 @@ found-same f none = refl
 found-same f (some r) = refl
 
 pub opened-same : (f : List ℕ) → openedAnswer (openedCase f) ≡ openAnswer f
-unfolding openedCase openAnswer openedAnswer
+unfolding openedCase openAnswer openedAnswer atOpened
 opened-same f = pick (leb (length f) maxFile)
   where
     pick : (t : Bool) → openedAnswer (cond t (foundCase f (opened f)) (Refused 1)) ≡ cond t (openFound f (opened f)) (Refusal 1 [])
@@ -73,11 +73,11 @@ out-refused f out n e = rw (← opened-same f, ← e) (refl, refl)
 
 pub open-long : (f : List ℕ) → maxFile < length f → Refused 1 ≡ openedCase f
 unfolding openedCase
-open-long f h = rw (lt-leb (length f) maxFile h)
+open-long f h = sym (at-long (Refused 1) (foundCase f) f h)
 
 pub open-within : (f : List ℕ) (o : Opened) → length f ≤ maxFile → o ≡ foundCase f (opened f) → o ≡ openedCase f
 unfolding openedCase
-open-within f o h e = rw (le-leb (length f) maxFile h) e
+open-within f o h e = e ∙ sym (at-within (Refused 1) (foundCase f) f h)
 
 -- confirmation is refused where more links stand before than a directory has room for
 and-false : (a b c d : Bool) → ((((a && false) && b) && c) && d) ≡ false

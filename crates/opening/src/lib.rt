@@ -7,7 +7,9 @@ ghost use Rattle.chain_index.specs.Offsets.{most, linkNo, Stored};
 ghost use Rattle.chain_index.specs.Numbered.{Numbered};
 ghost use Rattle.manifest.specs.Payload.{confirmed};
 ghost use Rattle.manifest.specs.Opening.{opened};
+ghost use Rattle.limits.specs.Limits.{maxFile};
 ghost use Rattle.opening.specs.Opened.{foundCase, openedCase};
+ghost use Rattle.opening.specs.Directory.{Indexed};
 ghost use Rattle.opening.specs.Entry.{entryCase, entryAt};
 
 // What opening a file answers: its manifest's offset, end and id, the number of its entries and the boundaries tried; or no manifest
@@ -88,16 +90,26 @@ fn search(file: &[u8], offsets: &[u64], n: usize) -> Opened
     Opened::NoManifest { tried }
 }
 
-// The file's manifest; 1 for a file above the limit, then 2 where no manifest is confirmed.
-pub fn open(file: &[u8]) -> Opened
+// The file's manifest, with the offsets of the first links left in a list for the calls that go on from there; 1 for a file above the limit, then 2
+// where no manifest is confirmed.
+pub fn open_with(file: &[u8], offsets: &mut [u64]) -> Opened
+    requires { ⌜ most ≤ length (now offsets) ⌝ }
     ensures { λ r. ⌜ r ≡ openedCase (now (file .entry)) ⌝ }
+    ensures { λ _. ⌜ (length (now (file .entry)) ≤ maxFile → Indexed (now (file .entry)) (now (offsets .exit))) ⌝ }
 {
     if file.len() > limits::MAX_FILE {
         return Opened::Refused(1);
     }
+    let n = chain_index::collect(file, offsets);
+    search(file, offsets, n)
+}
+
+// The file's manifest.
+pub fn open(file: &[u8]) -> Opened
+    ensures { λ r. ⌜ r ≡ openedCase (now (file .entry)) ⌝ }
+{
     let mut offsets = [0u64; 1025];
-    let n = chain_index::collect(file, &mut offsets);
-    search(file, &offsets, n)
+    open_with(file, &mut offsets)
 }
 
 // The entry of the link whose header begins at p, with the state that stands at s. A confirmed manifest says of a link what the link's own
@@ -122,12 +134,8 @@ fn read_entry(file: &[u8], p: usize, s: usize) -> DirectoryEntry
 pub fn entry(file: &[u8], index: u64) -> DirectoryEntry
     ensures { λ r. ⌜ r ≡ entryCase (now (file .entry)) index ⌝ }
 {
-    if file.len() > limits::MAX_FILE {
-        return DirectoryEntry::Refused(1);
-    }
     let mut offsets = [0u64; 1025];
-    let n = chain_index::collect(file, &mut offsets);
-    let found = search(file, &offsets, n);
+    let found = open_with(file, &mut offsets);
     match found {
         Opened::Refused(number) => DirectoryEntry::Refused(number),
         Opened::NoManifest { tried: _ } => DirectoryEntry::Refused(2),

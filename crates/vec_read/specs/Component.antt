@@ -35,7 +35,7 @@ component-float s at dtype bits e b = rw (e, b)
 first-byte : (s : List ℕ) (at : ℕ) → getD (take 1 (drop at s)) 0 0 ≡ getD s at 0
 first-byte s at = getD-take 1 (drop at s) 0 0 (omega arith) ∙ getD-drop at s 0 0 ∙ rw (add-zero at)
 
-byte-wide : (dtype : ℕ) → (dtype ≡ 0 → ⊥) → 0 < width dtype → width dtype ≡ 1
+pub byte-wide : (dtype : ℕ) → (dtype ≡ 0 → ⊥) → 0 < width dtype → width dtype ≡ 1
 unfolding width
 byte-wide dtype a h = pick (eqb dtype 0) (eqb dtype 3 || eqb dtype 4) refl h
   where

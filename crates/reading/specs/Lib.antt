@@ -1,0 +1,5 @@
+-- Reading by id: which segments are live, in which order they are searched, and what each reading call answers.
+pub mod Live
+pub mod Answers
+pub mod Laws
+pub mod Placed
