@@ -2,3 +2,4 @@
 mod files;
 mod leaves;
 mod payloads;
+mod by_id;

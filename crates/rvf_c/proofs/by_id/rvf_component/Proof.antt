@@ -1,0 +1,52 @@
+-- `rvf_component` meets its contract: what `file_vector::component_bits` answers, by number and values.
+-- Assumes nothing.
+use mathlib.Core.Path.{_≡_, sym, ap, _∙_}
+use mathlib.Core.List.{[]}
+use Rattle.answers.specs.Out.{out-refused, out-accepted}
+use Rattle.file_vector.specs.Component.{bitsAnswer, bits-same}
+use borrow.Author.Needs.{needs}
+use Rattle.rvf_c.proofs.by_id.rvf_component.Statement.{statement}
+use Rattle.rvf_c.proofs.by_id.rvf_component.Tie as tie
+
+component-bits-requires : tie.Need-component-bits-requires
+component-bits-requires c κs = search needs
+
+enum-known-b : tie.Need-enum-known-b
+enum-known-b c = search needs
+
+enum-known-b-2 : tie.Need-enum-known-b-2
+enum-known-b-2 c = search needs
+
+cast-out : tie.Need-cast-out
+cast-out c = search needs
+
+element-write-out : tie.Need-element-write-out
+element-write-out c = search needs
+
+cast-out-2 : tie.Need-cast-out-2
+cast-out-2 c = search needs
+
+element-write-out-2 : tie.Need-element-write-out-2
+element-write-out-2 c = search needs
+
+returns : tie.Need-returns
+unfolding bitsAnswer
+returns c = out-refused _ _ [] _ (sym (bits-same _) ∙ ap bitsAnswer (sym (c .before .before .before .component-bits .ensures) ∙ c .before .b .given .1))
+
+returns-2 : tie.Need-returns-2
+unfolding bitsAnswer
+returns-2 c = out-accepted _ _ _ (sym (bits-same _) ∙ ap bitsAnswer (sym (c .before .before .before .component-bits .ensures) ∙ c .before .b2 .given .1))
+
+pub rvf-component-spec : {M : Type 1} → statement M
+rvf-component-spec =
+    tie.close
+    (tie.spec
+    component-bits-requires
+    enum-known-b
+    enum-known-b-2
+    cast-out
+    element-write-out
+    cast-out-2
+    element-write-out-2
+    returns
+    returns-2)

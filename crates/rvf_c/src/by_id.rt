@@ -1,0 +1,61 @@
+// Reading by id: a segment's payload, a vector, a component.
+ghost use mathlib.Core.Path.{_≡_};
+ghost use Rattle.answers.specs.Answer.{number, outOf};
+ghost use Rattle.reading.specs.Answers.{partIn, partAnswer, vectorCase, vectorAfter, valueIn, valueAnswer};
+ghost use Rattle.vec_get.specs.Vector.{vectorAnswer};
+use file_payload::Place;
+use file_vector::Bits;
+use vec_get::Vector;
+
+// Where the payload of the live segment with an id lies in the file: where it begins, and its length; or 1, 2, 3, 4.
+#[no_mangle]
+pub extern "C" fn rvf_payload(file: &[u8], id: u64, out: &mut [u64; 2]) -> u32
+    ensures { λ r. ⌜ r ≡ number (partAnswer (partIn (now (file .entry)) id)) ⌝ }
+    ensures { λ _. ⌜ now (out .exit) ≡ outOf (now (out .entry)) (partAnswer (partIn (now (file .entry)) id)) ⌝ }
+{
+    let p = file_payload::payload_place(file, id);
+    match p {
+        Place::Refused(e) => e,
+        Place::At { start, length } => {
+            out[0] = start as u64;
+            out[1] = length as u64;
+            0
+        }
+    }
+}
+
+// The vector with an id at the front of a buffer: dim, dtype and the length written; or 1, 2, the search's 4, 5, 6, 7, then 8, then 9.
+#[no_mangle]
+pub extern "C" fn rvf_vector(file: &[u8], id: u64, buffer: &mut [u8], out: &mut [u64; 3]) -> u32
+    ensures { λ r. ⌜ r ≡ number (vectorAnswer (vectorCase (now (file .entry)) id (now (buffer .entry)))) ⌝ }
+    ensures { λ _. ⌜ now (buffer .exit) ≡ vectorAfter (now (file .entry)) id (now (buffer .entry)) ⌝ }
+    ensures { λ _. ⌜ now (out .exit) ≡ outOf (now (out .entry)) (vectorAnswer (vectorCase (now (file .entry)) id (now (buffer .entry)))) ⌝ }
+{
+    let v = file_vector::vector(file, id, buffer);
+    match v {
+        Vector::Refused(e) => e,
+        Vector::Read { dim, dtype, length } => {
+            out[0] = dim as u64;
+            out[1] = dtype as u64;
+            out[2] = length as u64;
+            0
+        }
+    }
+}
+
+// A component of the vector with an id: its dtype, and its bytes as a number, a NaN's payload included; or 1, 2, the search's 4, 5, 6, 7, then 8.
+#[no_mangle]
+pub extern "C" fn rvf_component(file: &[u8], id: u64, index: u64, out: &mut [u64; 2]) -> u32
+    ensures { λ r. ⌜ r ≡ number (valueAnswer (valueIn (now (file .entry)) id index)) ⌝ }
+    ensures { λ _. ⌜ now (out .exit) ≡ outOf (now (out .entry)) (valueAnswer (valueIn (now (file .entry)) id index)) ⌝ }
+{
+    let b = file_vector::component_bits(file, id, index);
+    match b {
+        Bits::Refused(e) => e,
+        Bits::Of { dtype, bits } => {
+            out[0] = dtype as u64;
+            out[1] = bits as u64;
+            0
+        }
+    }
+}
