@@ -4,10 +4,14 @@
  * values to `out`. A refused call changes no byte of any buffer that it was lent, `out` included.
  * A slice is a pointer and a length in elements; for length 0 the pointer must still not be null.
  *
+ *   1  file above 16,777,216 bytes
+ *   2  no confirmed manifest
+ *   3  no live segment with this id in the directory
+ *   4  content hash differs
  *   5  layout, id map or varint breaks a rule
  *   6  dtype not held
  *   7  block checksum differs
- *   8  no such vector
+ *   8  no such vector, or component index at or above dim
  *   9  lent buffer too short
  *  14  writer's input breaks a rule
  */
@@ -62,6 +66,20 @@ uint32_t rvf_open(const uint8_t *file, size_t len, uint64_t out[5]);
  * and 8 to 15 as two little-endian numbers, type, state, flags. Refuses 1, then 2; answers 255, which is no number of the
  * rules, where the index is not below the number of entries. */
 uint32_t rvf_entry(const uint8_t *file, size_t len, uint64_t index, uint64_t out[8]);
+
+/* Where the payload of the live segment with an id lies in the file: a part of `file` itself. What lies inside is not
+ * checked. out: where it begins, counted from `file`, and its length. Refuses 1, 2, 3, 4. */
+uint32_t rvf_payload(const uint8_t *file, size_t len, uint64_t id, uint64_t out[2]);
+
+/* The vector with an id, out of the live VEC segments from the last in the directory to the first. Each is checked whole
+ * first; the first bad one refuses, the first that holds the id answers. Writes the vector's bytes in dimension order to
+ * the front of the buffer. out: dim, dtype, length written. Refuses 1, 2, then 4, 5, 6 or 7 of a segment, then 8, then 9. */
+uint32_t rvf_vector(const uint8_t *file, size_t len, uint64_t id, uint8_t *buffer, size_t buffer_len, uint64_t out[3]);
+
+/* A component of the vector with an id, found as rvf_vector finds it. out: dtype, and the value's bytes as a little-endian
+ * number: dtype 0 the four bytes of the f32 (a NaN's payload included), 3 and 4 the byte. Refuses as rvf_vector, without 9;
+ * 8 also for an index at or above dim. */
+uint32_t rvf_component(const uint8_t *file, size_t len, uint64_t id, uint64_t index, uint64_t out[2]);
 
 #ifdef __cplusplus
 }

@@ -4,8 +4,9 @@ ghost use Prim.Native.Nat.{_≤_};
 ghost use lib.ListN.{length};
 ghost use Rattle.chain_index.specs.Offsets.{most};
 ghost use Rattle.opening.specs.Directory.{ManifestAt, Indexed};
-ghost use Rattle.reading.specs.Answers.{partIn};
-ghost use Rattle.file_payload.specs.Place.{placeOf, placeNumber, Hands};
+ghost use Rattle.answers.specs.Answer.{number};
+ghost use Rattle.reading.specs.Answers.{partIn, partAnswer};
+ghost use Rattle.file_payload.specs.Place.{placeOf, placeNumber, Hands, HandsPart};
 use opening::Opened;
 
 // Where a payload begins in the file and how long it is; or the number of a refusal.
@@ -92,5 +93,22 @@ pub fn part_at(file: &[u8], place: Place) -> &[u8]
             &file[start..end]
         }
         Place::Refused(_) => &file[..0],
+    }
+}
+
+// A payload that is handed back: the number of a refusal, 0 for none, and the part of the file itself.
+pub struct HandedPart<'a> {
+    pub number: u32,
+    pub part: &'a [u8],
+}
+
+// The payload of the segment with an id: 1, 2, 3, 4, else that part of the lent file itself.
+pub fn payload<'a>(file: &'a [u8], id: u64) -> HandedPart<'a>
+    ensures { λ r. ⌜ (r .number ≡ number (partAnswer (partIn (now (file .entry)) id))) × HandsPart (r .part) (file .entry) (partIn (now (file .entry)) id) ⌝ }
+{
+    let place = payload_place(file, id);
+    HandedPart {
+        number: number_of(place),
+        part: part_at(file, place),
     }
 }

@@ -1,5 +1,5 @@
 // The exported calls. Each decides nothing: it calls the function below it, returns the number of a refusal or 0, and lays the values into `out`.
+mod by_id;
 mod files;
 mod leaves;
 mod payloads;
-mod by_id;
