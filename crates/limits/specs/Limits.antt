@@ -25,3 +25,11 @@ maxFile = 16777216
 -- entries of a directory
 abbrev pub maxEntries : ℕ
 maxEntries = 1024
+
+-- bodies in a batch
+abbrev pub maxBodies : ℕ
+maxBodies = 16
+
+-- bytes of a batch
+abbrev pub maxBatch : ℕ
+maxBatch = 1048576

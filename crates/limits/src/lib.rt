@@ -11,3 +11,7 @@ pub const MAX_DIM: usize = 1024;
 pub const MAX_FILE: usize = 16777216;
 // Entries of a directory: 0 to this.
 pub const MAX_ENTRIES: usize = 1024;
+// Bodies in a batch: 0 to this.
+pub const MAX_BODIES: usize = 16;
+// Bytes of a batch: 16 to this.
+pub const MAX_BATCH: usize = 1048576;

@@ -18,11 +18,11 @@ use Rattle.chain_index.specs.Offsets.{noLink, linkNo}
 use Rattle.chain_index.specs.Numbered.{Numbered}
 use Rattle.manifest.specs.Opening.{opened, states, at-long, at-within}
 use Rattle.opening.specs.Directory.{ManifestAt, EntryAt}
-use Rattle.vecseg.specs.Payload.{checkOf}
+use Rattle.vecseg.specs.Payload.{vecKind, checkOf}
 use Rattle.vecseg.specs.Find.{Place, findIn}
 use Rattle.vec_find.specs.Found.{foundOf}
 use Rattle.vec_find.specs.declared.Found.the-variants.{At, Missing as NotFound}
-use Rattle.reading.specs.Live.{vecKind, liveOf, vectorsOf, searchOrder, orderOf, order-all, order-retired, order-other, order-here}
+use Rattle.reading.specs.Live.{liveOf, vectorsOf, searchOrder, orderOf, order-all, order-retired, order-other, order-here}
 use Rattle.reading.specs.Answers.{Hit, Held, Missing, Bad, hitOf, lookIn, orElse, searchIn, hitFound, hitIn}
 use Rattle.locate.specs.declared.Located.{Located}
 use Rattle.locate.specs.declared.Located.the-variants.{In, Nowhere, Refused}

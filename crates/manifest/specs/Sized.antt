@@ -6,8 +6,8 @@ use mathlib.Core.Path.{_≡_, refl, sym, ap, _∙_}
 use mathlib.Core.List.{List, [], _∷_, _++_, append-nil, append-assoc, map}
 use native.Mathlib.Omega.{arith}
 use native.Mathlib.Nat.{mul-zero, mul-suc}
-use lib.ListN.{length, take, drop, getD, length-append}
-use lib.Seq.{getD-drop}
+use lib.ListN.{length, take, drop, getD, length-append, List·getD-append}
+use lib.Seq.{getD-drop, drop-at}
 use Rattle.octets.specs.Round.{round64, round64-ge}
 use Rattle.chain.specs.Chain.{All}
 
@@ -87,6 +87,22 @@ module _ (size : ℕ) where
   statesBy-at zero e i h = absurd (omega arith)
   statesBy-at (suc n) e zero h = first e
   statesBy-at (suc n) e (suc i) h = statesBy-at n (drop size e) i (omega arith) ∙ next e i
+
+  -- the states of entries that were written are read back
+  pub statesBy-entries : {X : Type 0} (g : X → ℕ → List ℕ) (xs : List X) (ss rest : List ℕ) → 41 < size
+      → All (λ x. (s : ℕ) → (length (g x s) ≡ size) × (getD (g x s) 41 0 ≡ s)) xs → length ss ≡ length xs
+      → statesBy size (length xs) (entriesOf g xs ss ++ rest) ≡ ss
+  unfolding statesBy entriesOf All
+  statesBy-entries g [] [] rest h t e = refl
+  statesBy-entries g [] (s ∷ ss) rest h t e = absurd (omega arith)
+  statesBy-entries g (x ∷ xs) [] rest h t e = absurd (omega arith)
+  statesBy-entries g (x ∷ xs) (s ∷ ss) rest h t e =
+      let n : length (g x s) ≡ size = t .0 s .0 in
+      let k : 41 < length (g x s) = omega arith in
+      let a : (g x s ++ entriesOf g xs ss) ++ rest ≡ g x s ++ (entriesOf g xs ss ++ rest) = append-assoc (g x s) (entriesOf g xs ss) rest in
+      let b : getD (g x s ++ (entriesOf g xs ss ++ rest)) 41 0 ≡ s = List·getD-append (g x s) (entriesOf g xs ss ++ rest) 0 41 k ∙ t .0 s .1 in
+      let d : drop size (g x s ++ (entriesOf g xs ss ++ rest)) ≡ entriesOf g xs ss ++ rest = drop-at (g x s) (entriesOf g xs ss ++ rest) size n in
+      rw (a, b, d) (ap (λ (r : List ℕ). s ∷ r) (statesBy-entries g xs ss rest h (t .1) (omega arith)))
 
   pub recordBy-ge : (c : ℕ) → 8 + size * c ≤ recordBy size c
   unfolding recordBy

@@ -14,10 +14,7 @@ use Rattle.chain.specs.Last.{Found}
 use Rattle.segment.specs.Header.{Link}
 use Rattle.chain_index.specs.Offsets.{noLink}
 use Rattle.manifest.specs.Opening.{states}
-
--- the type of a vector segment
-abbrev pub vecKind : ℕ
-vecKind = 0x01
+use Rattle.vecseg.specs.Payload.{vecKind}
 
 -- those of some links whose state is 0, in the directory's order
 unfoldable pub liveOf : List Link → List ℕ → List Link

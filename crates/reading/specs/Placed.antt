@@ -20,8 +20,9 @@ use Rattle.segment.specs.Chained.{chain}
 use Rattle.manifest.specs.Payload.{confirmed}
 use Rattle.manifest.specs.Opening.{opened, states, atOpened, at-long, at-within}
 use Rattle.manifest_write.specs.Links.{Lying, chain-lying}
+use Rattle.vecseg.specs.Payload.{vecKind}
 use Rattle.vecseg.specs.Find.{Place, findIn}
-use Rattle.reading.specs.Live.{vecKind, liveOf, live, vectorsOf, searchOrder, withId}
+use Rattle.reading.specs.Live.{liveOf, live, vectorsOf, searchOrder, withId}
 use Rattle.reading.specs.Answers.{Part, Handed, NotHanded, partOf, partFound, partIn, Hit, Held, Missing, Bad, searchIn, hitFound, hitIn}
 use Rattle.reading.specs.Laws.{Answered, answered, Good}
 

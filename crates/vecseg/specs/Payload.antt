@@ -14,6 +14,10 @@ use Rattle.limits.specs.Limits.{maxVectors, maxBlocks, maxDim}
 use Rattle.crc32c.specs.Crc.{crcOf}
 use Rattle.idmap.specs.Decode.{MapRead, Whole, Broken, mapOf}
 
+-- the type of a segment with such a payload
+abbrev pub vecKind : ℕ
+vecKind = 0x01
+
 -- ---- a line of the block directory
 
 pub record Line : Type 0 where

@@ -1,0 +1,2 @@
+-- The batch of bodies that an append is given.
+pub mod Form
