@@ -8,7 +8,7 @@ use mathlib.Core.List.{List, [], _∷_}
 use native.Mathlib.Omega.{arith}
 use lib.Dec.{ltb}
 use lib.ListN.{length}
-use borrow.Author.Tests.{ltb-false, not-false, lt-ltb}
+use borrow.Author.Tests.{ltb-false, not-false, lt-ltb, le-ltb}
 use Rattle.limits.specs.Limits.{maxFile, maxEntries}
 use Rattle.answers.specs.Answer.{Answer, Accepted, Refusal}
 use Rattle.chain.specs.Last.{Found}
@@ -77,4 +77,32 @@ accepted-when room n o batch ids vs q =
         end-room = ltb-false room (newEnd o (bodiesOf batch)) (t .1 .1 .1 .1 .1 .1 .1 .1 .1 .0);
       },
       sym v,
+    )
+
+-- and the other way: what passes every test is accepted
+empty-passes : (n : ℕ) (o : Option (Found Link)) → (o ≡ none → n ≡ 0) → ltb 0 n && isNone o ≡ false
+unfolding isNone
+empty-passes n none h = rw (h refl)
+empty-passes n (some r) h = pick (ltb 0 n)
+  where
+    pick : (t : Bool) → t && false ≡ false
+    pick true = refl
+    pick false = refl
+
+pub accepts : (room n : ℕ) (o : Option (Found Link)) (batch ids : List ℕ) → Fits room n o batch ids
+    → answerOn room n o batch ids ≡ Accepted (newEnd o (bodiesOf batch) ∷ manifestId o (bodiesOf batch) ∷ newCount o (bodiesOf batch) ∷ [])
+unfolding answerOn appendChecks checked
+accepts room n o batch ids y =
+    let top : manifestId o (bodiesOf batch) ≤ 2 ^ 64 - 1 = (let i = y .id-fits in omega arith) in
+    rw (
+      le-ltb room n (y .in-buffer),
+      le-ltb maxFile n (y .in-limit),
+      empty-passes n o (y .starts-empty),
+      y .batch-held,
+      y .vectors-good,
+      y .retire-held,
+      le-ltb maxEntries (newCount o (bodiesOf batch)) (y .count-fits),
+      le-ltb (2 ^ 64 - 1) (manifestId o (bodiesOf batch)) top,
+      le-ltb maxFile (newEnd o (bodiesOf batch)) (y .end-limit),
+      le-ltb room (newEnd o (bodiesOf batch)) (y .end-room),
     )

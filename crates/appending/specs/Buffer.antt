@@ -8,20 +8,21 @@ use native.Mathlib.Omega.{arith}
 use lib.ListN.{length, take, drop, length-append, length-take}
 use lib.Seq.{take-take, take-length, take-at, drop-at, take-append-add, take-append-le, length-take-le}
 use Rattle.octets.specs.Over.{over}
+use Rattle.octets.specs.Round.{round64}
 use Rattle.answers.specs.Answer.{Answer, Accepted, Refusal}
 use Rattle.chain.specs.Chain.{sizes}
 use Rattle.chain.specs.Last as last
-use Rattle.chain.specs.Last.{Found}
-use Rattle.segment.specs.Header.{Link, start, reader}
+use Rattle.chain.specs.Last.{Found, upTo}
+use Rattle.segment.specs.Header.{Link, start, reader, size}
 use Rattle.segment.specs.Laws.{segment-format}
-use Rattle.segment.specs.Written.{linkOf}
-use Rattle.manifest.specs.Payload.{confirmed}
+use Rattle.segment.specs.Written.{linkOf, linkOf-size}
+use Rattle.manifest.specs.Payload.{manifestKind, payloadLength, confirmed}
 use Rattle.manifest.specs.Opening.{opened, states}
 use Rattle.batch.specs.Form.{Body, bodiesOf}
-use Rattle.appending.specs.Append.{startOf, nextId, bodyLinks, manifestId, newCount, newEnd, newLinks, newStates, newBytes, answerOn, appendAnswer, bufferOn, appendBuffer, Appends}
+use Rattle.appending.specs.Append.{keptLinks, startOf, nextId, bodyLinks, manifestAt, manifestId, newCount, newEnd, newLinks, newStates, newPayload, newBytes, answerOn, appendAnswer, bufferOn, appendBuffer, Appends}
 use Rattle.appending.specs.Accepts.{Fits, accepted-when}
 use Rattle.appending.specs.Written.{bodies-held, bodies-never}
-use Rattle.appending.specs.Opens.{kept, newManifest, fileWith, cutFile, new-states, new-confirmed, new-length, new-exact}
+use Rattle.appending.specs.Opens.{kept, newManifest, fileWith, cutFile, links-count, new-payload-length, new-states, new-confirmed, new-length, new-exact}
 
 -- ---- the start lies in the file
 
@@ -159,3 +160,29 @@ module _ (f old : List ℕ) (batch ids : List ℕ) (ts : ℕ) (vs new : List ℕ
       ap (drop (newEnd was bodies)) (split ∙ sym (append-assoc (take (startOf was) f) bytes (drop (startOf was + length bytes) old)))
       ∙ drop-at (take (startOf was) f ++ bytes) (drop (startOf was + length bytes) old) (newEnd was bodies) p
       ∙ ap (λ (m : ℕ). drop m old) n
+
+-- ---- what the next append goes on from
+
+-- a new manifest takes so many bytes
+pub next-size : (f : List ℕ) (batch ids : List ℕ) (ts : ℕ)
+    → size (newManifest (opened f) (bodiesOf batch) ids ts) ≡ 64 + round64 (payloadLength (newCount (opened f) (bodiesOf batch)))
+unfolding newManifest
+next-size f batch ids ts =
+    linkOf-size (manifestAt (opened f) (bodiesOf batch)) manifestKind 0 (manifestId (opened f) (bodiesOf batch)) ts (newPayload (opened f) (bodiesOf batch) ids ts)
+    ∙ ap (λ (n : ℕ). 64 + round64 n) (new-payload-length (opened f) (kept f) (bodiesOf batch) ids ts)
+
+module _ (f : List ℕ) (room n : ℕ) (batch ids : List ℕ) (ts : ℕ) (h : ts < 2 ^ 64) (y : Fits room n (opened f) batch ids) where
+  pub next-start : startOf (opened (fileWith f (bodiesOf batch) ids ts)) ≡ newEnd (opened f) (bodiesOf batch)
+  unfolding startOf newManifest linkOf newEnd
+  next-start = ap startOf (open-with f room n batch ids ts h y) ∙ ap (λ (k : ℕ). manifestAt (opened f) (bodiesOf batch) + k) (next-size f batch ids ts)
+
+  pub next-next : nextId (opened (fileWith f (bodiesOf batch) ids ts)) ≡ manifestId (opened f) (bodiesOf batch) + 1
+  unfolding nextId newManifest linkOf
+  next-next = ap nextId (open-with f room n batch ids ts h y)
+
+  pub next-count : length (keptLinks (opened (fileWith f (bodiesOf batch) ids ts))) ≡ newCount (opened f) (bodiesOf batch) + 1
+  unfolding upTo
+  next-count =
+      ap (λ (o : Option (Found Link)). length (keptLinks o)) (open-with f room n batch ids ts h y)
+      ∙ length-append (newLinks (opened f) (bodiesOf batch) ts) (newManifest (opened f) (bodiesOf batch) ids ts ∷ [])
+      ∙ ap (λ (k : ℕ). k + 1) (links-count (opened f) (kept f) (bodiesOf batch) ids ts)

@@ -123,7 +123,7 @@ unfoldable pub cutFile : List ℕ → List Body → List ℕ → ℕ → ℕ →
 cutFile f bs ids ts k = take (startOf (opened f)) f ++ take k (newBytes (opened f) bs ids ts)
 
 module _ (o : Option (Found Link)) (y : Kept o) (bs : List Body) (ids : List ℕ) (ts : ℕ) where
-  links-count : length (newLinks o bs ts) ≡ newCount o bs
+  pub links-count : length (newLinks o bs ts) ≡ newCount o bs
   unfolding newLinks newCount
   links-count =
       length-append (keptLinks o) (bodyLinks (startOf o) (nextId o) ts bs)

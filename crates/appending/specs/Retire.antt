@@ -7,10 +7,7 @@ use lib.Dec.{eqb}
 use lib.ListN.{drop, getD}
 use Rattle.segment.specs.Header.{Link}
 use Rattle.manifest.specs.Payload.{manifestKind}
-
-unfoldable pub member : ℕ → List ℕ → Bool
-member x [] = false
-member x (y ∷ ys) = eqb y x || member x ys
+use Rattle.batch.specs.Form.{member}
 
 -- an entry of the directory has the id, is live there, and is no manifest
 unfoldable pub retirable : List Link → List ℕ → ℕ → Bool

@@ -14,7 +14,8 @@ use Rattle.chain.specs.Chain.{All}
 use Rattle.segment.specs.Header.{Link}
 use Rattle.segment.specs.Chained.{Rising}
 use Rattle.manifest.specs.Payload.{manifestKind, stateHeld, statesHeld}
-use Rattle.appending.specs.Retire.{member, retirable, retireHeld, retired}
+use Rattle.batch.specs.Form.{member}
+use Rattle.appending.specs.Retire.{retirable, retireHeld, retired}
 
 -- ---- an id of the list names a link that is no manifest
 

@@ -1,7 +1,7 @@
 -- The form of a batch (document 01's 'sheet'): the number of bodies, a line for each, then the bodies. Definitions only.
 -- Assumes nothing.
 use Prim.Native.Nat.{ℕ, zero, suc, _+_, _*_}
-use mathlib.Core.Bool.{Bool, true, cond, not, _&&_}
+use mathlib.Core.Bool.{Bool, true, false, not, _&&_, _||_}
 use mathlib.Core.List.{List, [], _∷_}
 use lib.Dec.{eqb, leb}
 use lib.ListN.{length, take, drop, getD}
@@ -66,3 +66,10 @@ bodiesFrom (suc n) at lines s =
 
 unfoldable pub bodiesOf : List ℕ → List Body
 bodiesOf s = bodiesFrom (bodyCount s) (bodiesAt (bodyCount s)) (drop lineSize s) s
+
+-- ---- the list of ids to retire
+
+-- whether a number stands in a list
+unfoldable pub member : ℕ → List ℕ → Bool
+member x [] = false
+member x (y ∷ ys) = eqb y x || member x ys
