@@ -1,16 +1,15 @@
 -- One accepted append, on any file and any buffer that holds it: what the file is then, what opening it finds, and what opening it cut short finds.
 -- Assumes nothing.
 use Prim.Native.Nat.{ℕ, _+_, _-_, _^_, _≤_, _<_}
-use mathlib.Core.Path.{_≡_, refl, sym, ap, subst, _∙_}
-use mathlib.Core.Option.{Option, none, some}
+use mathlib.Core.Path.{_≡_, sym, ap, _∙_}
+use mathlib.Core.Option.{Option, some}
 use mathlib.Core.List.{List, [], _∷_, _++_, append-assoc}
 use native.Mathlib.Omega.{arith}
 use lib.ListN.{length, take, drop, length-append, length-take}
 use lib.Seq.{take-take, take-length, take-at, drop-at, take-append-add, take-append-le, length-take-le}
 use Rattle.octets.specs.Over.{over}
 use Rattle.octets.specs.Round.{round64}
-use Rattle.answers.specs.Answer.{Answer, Accepted, Refusal}
-use Rattle.chain.specs.Chain.{sizes}
+use Rattle.answers.specs.Answer.{Accepted}
 use Rattle.chain.specs.Last as last
 use Rattle.chain.specs.Last.{Found, upTo}
 use Rattle.segment.specs.Header.{Link, start, reader, size}

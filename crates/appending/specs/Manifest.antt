@@ -1,14 +1,14 @@
 -- A manifest's payload as it is written: its length, and the states read back off it.
 -- Assumes nothing.
-use Prim.Native.Nat.{ℕ, _+_, _-_, _*_, _≤_, _<_}
-use mathlib.Core.Path.{_≡_, refl, sym, ap, _∙_}
+use Prim.Native.Nat.{ℕ, _+_, _-_, _*_}
+use mathlib.Core.Path.{_≡_, ap, _∙_}
 use mathlib.Core.List.{List, [], _∷_, _++_, append-assoc}
 use native.Mathlib.Omega.{arith}
-use lib.ListN.{length, take, drop, getD, replicate, length-append, length-replicate, length-drop}
-use lib.Seq.{getD-append-add, drop-drop, length-take-le}
+use lib.ListN.{length, drop, getD, replicate, length-append, length-replicate, length-drop}
+use lib.Seq.{getD-append-add, length-take-le}
 use Rattle.le.specs.Le.{leBytes}
 use Rattle.chain.specs.Chain.{All}
-use Rattle.segment.specs.Header.{Link, size}
+use Rattle.segment.specs.Header.{Link}
 use Rattle.segment.specs.Laws.{linkFront, Lies, lies, size-least}
 use Rattle.segment.specs.Chained.{chain}
 use Rattle.segment.specs.Written.{linkOf, hash-length}

@@ -1,8 +1,8 @@
 -- One append, on any file: what the new bytes are to the chain, and what opening finds with them, and with some of them only.
 -- Assumes nothing.
-use Prim.Native.Nat.{ℕ, suc, _+_, _-_, _^_, _≤_, _<_}
+use Prim.Native.Nat.{ℕ, _+_, _-_, _^_, _≤_, _<_}
 use mathlib.Core.Path.{_≡_, refl, sym, ap, subst, _∙_}
-use mathlib.Core.Bool.{Bool, true, false, _&&_}
+use mathlib.Core.Bool.{true, _&&_}
 use mathlib.Core.Option.{Option, none, some}
 use mathlib.Core.List.{List, [], _∷_, _++_, append-assoc}
 use native.Mathlib.Omega.{arith}
@@ -15,19 +15,18 @@ use Rattle.limits.specs.Limits.{maxFile, maxEntries}
 use Rattle.chain.specs.Chain.{All, Exact, afters, afters-append, exact-append, sizes}
 use Rattle.chain.specs.Last as last
 use Rattle.chain.specs.Last.{Found, upTo, Stands, last-stands}
-use Rattle.segment.specs.Header.{Link, State, start, reader, size, whole, typeHeld, flagsHeld}
+use Rattle.segment.specs.Header.{Link, start, reader, size, whole, typeHeld, flagsHeld}
 use Rattle.segment.specs.Laws.{segment-format, afters-at}
 use Rattle.segment.specs.Chained.{chain, link-place, Rising, chain-rising}
-use Rattle.segment.specs.Written.{segment, linkOf, linkOf-size, segment-length}
+use Rattle.segment.specs.Written.{segment, linkOf, segment-length}
 use Rattle.segment.specs.Readback.{Fields, segment-exact, written-whole}
 use Rattle.manifest.specs.Sized.{length-statesBy}
 use Rattle.manifest.specs.Payload.{manifestKind, entrySize, confirmed, manifestPayload, payloadLength, statesHeld, statesIn}
 use Rattle.manifest.specs.Opening.{opened, states}
-use Rattle.batch.specs.Form.{Body, bodiesOf}
+use Rattle.batch.specs.Form.{Body}
 use Rattle.appending.specs.Retire.{retireHeld, retired}
 use Rattle.appending.specs.Append.{keptLinks, startOf, nextId, oldLinks, oldStates, keptStates, bodyLinks, bodyBytes, bodiesEnd, manifestAt, manifestId, newCount, newEnd, newLinks, newStates, newPayload, newBytes}
-use Rattle.appending.specs.Accepts.{Fits}
-use Rattle.appending.specs.Written.{BodyHeld, bodies-held, bodiesEnd-ge, bodyLinks-length, bodies-exact, afters-bodies, bodies-length, bodies-never}
+use Rattle.appending.specs.Written.{BodyHeld, bodyLinks-length, bodies-exact, afters-bodies, bodies-length}
 use Rattle.appending.specs.Manifest.{Hashed, chain-hashed, bodies-hashed, payload-length, states-back}
 use Rattle.appending.specs.States.{states-append, states-live, retired-length, retired-held}
 

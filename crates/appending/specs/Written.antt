@@ -1,10 +1,9 @@
 -- What an append writes is read back: its bytes are exactly the links of the bodies and of the manifest.
 -- Assumes nothing.
-use Prim.Native.Nat.{ℕ, zero, suc, _+_, _-_, _*_, _^_, _≤_, _<_}
-use mathlib.Core.Path.{_≡_, refl, sym, ap, subst, _∙_}
-use mathlib.Core.Bool.{Bool, true, false, cond, not, _&&_}
-use mathlib.Core.Option.{Option, none, some}
-use mathlib.Core.List.{List, [], _∷_, _++_}
+use Prim.Native.Nat.{ℕ, zero, suc, _+_, _-_, _^_, _≤_, _<_}
+use mathlib.Core.Path.{_≡_, refl, ap, _∙_}
+use mathlib.Core.Bool.{true, false, not, _&&_}
+use mathlib.Core.List.{List, [], _∷_}
 use native.Mathlib.Omega.{arith}
 use lib.Bits.{bitAnd, and-le-r}
 use lib.Dec.{eqb, leb}
@@ -14,8 +13,8 @@ use borrow.Author.Tests.{eqb-true, not-true}
 use Rattle.octets.specs.Round.{round64, round64-ge}
 use Rattle.octets.specs.Zero.{allZero, and-split}
 use Rattle.limits.specs.Limits.{maxBodies, maxBatch}
-use Rattle.chain.specs.Chain.{All, Exact, done, afters, afters-append, exact-append}
-use Rattle.segment.specs.Header.{Link, State, reader, after, size, typeHeld, flagsHeld}
+use Rattle.chain.specs.Chain.{All, Exact, done, afters, exact-append}
+use Rattle.segment.specs.Header.{Link, reader, size, typeHeld, flagsHeld}
 use Rattle.segment.specs.Laws.{segment-format}
 use Rattle.segment.specs.Written.{segment, linkOf, linkOf-size, segment-length}
 use Rattle.segment.specs.Readback.{Fields, segment-exact}

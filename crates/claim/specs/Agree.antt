@@ -1,6 +1,6 @@
 -- A file and a model agree, and one append keeps them agreeing, for every file: torn tails included.
 -- Assumes nothing.
-use Prim.Native.Nat.{ℕ, suc, _+_, _^_, _≤_, _<_}
+use Prim.Native.Nat.{ℕ, _+_, _^_, _≤_, _<_}
 use mathlib.Core.Path.{_≡_, refl, sym, ap, ap₂, subst, _∙_}
 use mathlib.Core.Bool.{Bool, true, false, cond}
 use mathlib.Core.Option.{Option, none, some}
@@ -9,22 +9,21 @@ use native.Mathlib.Omega.{arith}
 use lib.ListN.{length, take, drop, getD, replicate}
 use Rattle.limits.specs.Limits.{maxFile}
 use Rattle.answers.specs.Answer.{Answer, Accepted, Refusal}
-use Rattle.octets.specs.Round.{round64}
 use Rattle.chain.specs.Chain.{walk, walkF}
 use Rattle.chain.specs.Last as last
 use Rattle.chain.specs.Last.{Found, upTo}
-use Rattle.segment.specs.Header.{Link, size, reader, start}
+use Rattle.segment.specs.Header.{Link, size}
 use Rattle.segment.specs.Written.{linkOf, linkOf-size}
 use Rattle.manifest.specs.Sized.{length-statesBy}
-use Rattle.manifest.specs.Payload.{manifestKind, manifestPayload, payloadLength, confirmed, entrySize, statesIn}
+use Rattle.manifest.specs.Payload.{manifestKind, manifestPayload, entrySize}
 use Rattle.manifest.specs.Opening.{opened, states}
 use Rattle.batch.specs.Form.{Body, bodiesOf, member}
 use Rattle.appending.specs.Retire.{retired}
-use Rattle.appending.specs.Append.{keptLinks, startOf, nextId, oldStates, keptStates, bodySize, bodyLinks, bodiesEnd, manifestAt, manifestId, newCount, newEnd, newLinks, newStates, newPayload, Appends, appendAnswer, appendBuffer}
+use Rattle.appending.specs.Append.{keptLinks, startOf, nextId, oldStates, keptStates, bodySize, bodyLinks, bodiesEnd, manifestAt, manifestId, newEnd, newLinks, newStates, newPayload, Appends}
 use Rattle.appending.specs.Accepts.{Fits}
-use Rattle.appending.specs.Opens.{newManifest, fileWith, kept, new-payload-length}
+use Rattle.appending.specs.Opens.{newManifest, fileWith}
 use Rattle.appending.specs.Buffer.{open-with, states-with, with-length, Holds, Appended, appended, file-is}
-use Rattle.claim.specs.Model.{Entry, linksOf, statesOf, liveEntry, Model, emptyModel, paired, modelOf, retiredIf, retire, ifAny, joinManifest, joinBody, joinBodies, newManifestEntry, Fed, acceptedModel, feed, feedAll}
+use Rattle.claim.specs.Model.{Entry, linksOf, statesOf, liveEntry, Model, emptyModel, paired, modelOf, retiredIf, retire, ifAny, joinManifest, joinBody, joinBodies, newManifestEntry, acceptedModel, feed, feedAll}
 use Rattle.claim.specs.Runs.{Call, isAccepted, fedOf, fedAll, fileAfter, Run, stop, call}
 
 -- what opening finds in a file of this model

@@ -1,11 +1,11 @@
 -- THE CLAIM of document 01's demand 3, over every list of appends, accepted or refused: opening the file afresh gives what the last accepted append
 -- reported and exactly what the model holds.
 -- Assumes nothing.
-use Prim.Native.Nat.{ℕ, _+_, _-_, _/_, _^_, _≤_, _<_}
-use mathlib.Core.Path.{_≡_, refl, sym, ap, subst, _∙_}
-use mathlib.Core.Bool.{Bool, true, false, cond}
+use Prim.Native.Nat.{ℕ, _+_, _-_, _/_, _≤_}
+use mathlib.Core.Path.{_≡_, refl, sym, ap, _∙_}
+use mathlib.Core.Bool.{cond}
 use mathlib.Core.Option.{Option, none, some}
-use mathlib.Core.List.{List, [], _∷_, _++_, map-append}
+use mathlib.Core.List.{List, [], _∷_, _++_}
 use native.Mathlib.Omega.{arith}
 use lib.Dec.{leb}
 use lib.ListN.{length, take, drop, getD, length-map, length-append}
@@ -22,7 +22,7 @@ use Rattle.batch.specs.Form.{bodiesOf}
 use Rattle.appending.specs.Append.{startOf, oldStates, keptLinks, newEnd, bufferOn, appendBuffer, Appends}
 use Rattle.appending.specs.Buffer.{Holds, Appended, appended, before-start, behind-end}
 use Rattle.claim.specs.Model.{Entry, linksOf, statesOf, Model, emptyModel, modelOf, ifAny, feedAll}
-use Rattle.claim.specs.Runs.{Call, isAccepted, fedAll, fileAfter, Run, stop, call}
+use Rattle.claim.specs.Runs.{Call, fedAll, Run, stop, call}
 use Rattle.claim.specs.Agree.{Agree, foundBy, run-agrees, agree-empty, agree-opened}
 use Rattle.claim.specs.Reports.{lastAccepted, reported, last-reported, Recorded, recorded-all}
 

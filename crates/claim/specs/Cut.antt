@@ -2,32 +2,28 @@
 -- Assumes nothing.
 use Prim.Native.Nat.{ℕ, _+_, _-_, _^_, _≤_, _<_}
 use mathlib.Core.Path.{_≡_, refl, sym, ap, ap₂, _∙_}
-use mathlib.Core.Bool.{Bool, true, false, cond, _&&_}
+use mathlib.Core.Bool.{Bool, true, false, cond}
 use mathlib.Core.Option.{Option, none, some}
-use mathlib.Core.List.{List, [], _∷_, _++_}
+use mathlib.Core.List.{List, [], _∷_}
 use native.Mathlib.Omega.{arith}
 use lib.Dec.{ltb}
-use lib.ListN.{length, take, drop, getD, length-take, length-append}
+use lib.ListN.{length, take, getD, length-take, length-append}
 use lib.Seq.{take-take, length-take-le}
 use borrow.Author.Tests.{lt-ltb, le-ltb, ltb-false}
 use Rattle.limits.specs.Limits.{maxFile}
 use Rattle.answers.specs.Answer.{Answer, Accepted, Refusal}
 use Rattle.chain.specs.Last.{Found}
-use Rattle.segment.specs.Header.{Link, size}
+use Rattle.segment.specs.Header.{Link}
 use Rattle.segment.specs.Laws.{size-least}
-use Rattle.manifest.specs.Opening.{opened, openFound, openAnswer, atOpened, at-within, answers-alike}
+use Rattle.manifest.specs.Opening.{opened, openFound, openAnswer, at-within, answers-alike}
 use Rattle.opening.specs.Entry.{entryFound, entryAnswer}
-use Rattle.vec_get.specs.declared.Vector.{Vector}
-use Rattle.reading.specs.Answers.{Part, NotHanded, partFound, partIn, Hit, Bad, hitFound, hitIn, vectorHit, bufferHit, vectorCase, vectorAfter, Value, valueHit, valueIn}
+use Rattle.reading.specs.Answers.{NotHanded, partFound, partIn, Bad, hitFound, hitIn, vectorHit, bufferHit, vectorCase, vectorAfter, valueHit, valueIn}
 use Rattle.batch.specs.Form.{bodiesOf}
 use Rattle.appending.specs.Append.{startOf, newEnd, newBytes, checked, isNone, appendChecks, answerOn, appendAnswer, Appends}
 use Rattle.appending.specs.Opens.{kept, cutFile, new-length}
 use Rattle.appending.specs.Buffer.{start-inside, open-cut, Holds, Appended, appended, answer-is, some-new}
-use Rattle.claim.specs.Model.{Model, feedAll}
-use Rattle.claim.specs.Runs.{Call, fedAll, fileAfter, Run, stop, call}
-use Rattle.claim.specs.Agree.{Agree, run-agrees}
+use Rattle.claim.specs.Runs.{Call, fileAfter, Run, stop, call}
 use Rattle.claim.specs.Reports.{orBefore, ifAccepted, lastAccepted}
-use Rattle.claim.specs.Claim.{Starts, starts-agree}
 
 -- ---- answers alike
 

@@ -1,14 +1,14 @@
 -- Demand 3 in one theorem, over every list of appends from the empty file or from any file that opens. And of a start that is neither: every append
 -- refuses, and the file stays.
 -- Assumes nothing.
-use Prim.Native.Nat.{ℕ, _-_, _<_, _^_}
-use mathlib.Core.Path.{_≡_, refl, sym, ap, _∙_}
-use mathlib.Core.Bool.{Bool, true, false, cond}
-use mathlib.Core.Option.{Option, none, some}
-use mathlib.Core.List.{List, [], _∷_}
+use Prim.Native.Nat.{ℕ, _-_, _<_}
+use mathlib.Core.Path.{_≡_, refl, ap, _∙_}
+use mathlib.Core.Bool.{cond}
+use mathlib.Core.Option.{none, some}
+use mathlib.Core.List.{List, []}
 use native.Mathlib.Omega.{arith}
 use lib.Dec.{ltb}
-use lib.ListN.{length, take, getD}
+use lib.ListN.{length, getD}
 use Rattle.answers.specs.Answer.{Answer, Accepted, Refusal}
 use Rattle.manifest.specs.Opening.{opened}
 use Rattle.appending.specs.Append.{startOf, appendAnswer, Appends}

@@ -1,23 +1,23 @@
 -- What the last accepted append answered, and which entries a model has of the bodies that were accepted.
 -- Assumes nothing.
-use Prim.Native.Nat.{ℕ, suc, _+_, _^_, _≤_, _<_}
+use Prim.Native.Nat.{ℕ, _+_}
 use mathlib.Core.Path.{_≡_, refl, sym, ap, ap₂, subst, _∙_}
 use mathlib.Core.Bool.{Bool, true, false, cond}
 use mathlib.Core.Option.{Option, none, some, Option·some-injective}
 use mathlib.Core.List.{List, [], _∷_, _++_, map, map-append, append-assoc, append-nil}
 use native.Mathlib.Omega.{arith}
-use lib.ListN.{length, length-map, length-append}
+use lib.ListN.{length, length-map}
 use Rattle.answers.specs.Answer.{Answer, Accepted, Refusal}
 use Rattle.chain.specs.Chain.{All}
 use Rattle.segment.specs.Header.{Link, size}
 use Rattle.segment.specs.Written.{linkOf}
 use Rattle.manifest.specs.Opening.{opened}
 use Rattle.batch.specs.Form.{Body, bodiesOf}
-use Rattle.appending.specs.Append.{startOf, nextId, keptLinks, bodySize, bodyLinks, manifestAt, manifestId, newCount, newEnd, newLinks, newPayload, Appends}
-use Rattle.appending.specs.Opens.{newManifest, kept, new-payload-length, links-count}
+use Rattle.appending.specs.Append.{bodySize, bodyLinks, manifestId, newCount, newEnd, Appends}
+use Rattle.appending.specs.Opens.{kept, links-count}
 use Rattle.appending.specs.Buffer.{next-size, Holds, Appended, appended}
-use Rattle.claim.specs.Model.{Entry, linksOf, liveEntry, Model, retiredIf, retire, ifAny, joinManifest, joinBodies, newManifestEntry, Fed, acceptedModel, feed, feedAll}
-use Rattle.claim.specs.Runs.{Call, isAccepted, fedOf, fedAll, fileAfter, Run, stop, call}
+use Rattle.claim.specs.Model.{Entry, linksOf, Model, retiredIf, retire, ifAny, joinManifest, joinBodies, newManifestEntry, acceptedModel, feed, feedAll}
+use Rattle.claim.specs.Runs.{Call, isAccepted, fedOf, fedAll, Run, stop, call}
 use Rattle.claim.specs.Agree.{Agree, agree-call, links-retired, joined, full-links, full-end, full-next, link-is}
 
 -- ---- the last accepted append
@@ -140,9 +140,10 @@ has-bodies xs at id ts [] = tt
 has-bodies xs at id ts (b ∷ bs) =
     let l : Link = linkOf at (b .kind) (b .flags) id ts (b .payload) in
     let e : (xs ++ l ∷ []) ++ bodyLinks (at + bodySize b) (id + 1) ts bs ≡ xs ++ l ∷ bodyLinks (at + bodySize b) (id + 1) ts bs =
-    append-assoc xs (l ∷ []) (bodyLinks (at + bodySize b) (id + 1) ts bs) in
-    (record { before = xs; link = l; behind = bodyLinks (at + bodySize b) (id + 1) ts bs; split = refl; kind-is = refl; flags-is = refl; timestamp-is = refl; payload-is = refl },
-    rw e at (has-bodies (xs ++ l ∷ []) (at + bodySize b) (id + 1) ts bs))
+    append-assoc xs (l ∷ []) (bodyLinks (at + bodySize b) (id + 1) ts bs) in (
+      record { before = xs; link = l; behind = bodyLinks (at + bodySize b) (id + 1) ts bs; split = refl; kind-is = refl; flags-is = refl; timestamp-is = refl; payload-is = refl },
+      rw e at (has-bodies (xs ++ l ∷ []) (at + bodySize b) (id + 1) ts bs),
+    )
 
 -- the links of the entries only grow
 abbrev Grown : Model → Model → Type 0
@@ -163,9 +164,10 @@ grown-call c k = go (isAccepted (c .answer))
   where
     go : (t : Bool) → Grown k (cond t (acceptedModel (c .batch) (c .retiring) (c .timestamp) k) k)
     go false = ([], sym (append-nil (linksOf (k .entries))))
-    go true =
-        (linksOf (ifAny (k .manifest)) ++ bodyLinks (k .end) (k .next) (c .timestamp) (bodiesOf (c .batch)),
-        accepted-links (c .batch) (c .retiring) (c .timestamp) k ∙ append-assoc (linksOf (k .entries)) (linksOf (ifAny (k .manifest))) (bodyLinks (k .end) (k .next) (c .timestamp) (bodiesOf (c .batch))))
+    go true = (
+      linksOf (ifAny (k .manifest)) ++ bodyLinks (k .end) (k .next) (c .timestamp) (bodiesOf (c .batch)),
+      accepted-links (c .batch) (c .retiring) (c .timestamp) k ∙ append-assoc (linksOf (k .entries)) (linksOf (ifAny (k .manifest))) (bodyLinks (k .end) (k .next) (c .timestamp) (bodiesOf (c .batch))),
+    )
 
 grown-all : (cs : List Call) (k : Model) → Grown k (feedAll (fedAll cs) k)
 unfolding fedAll feedAll
@@ -189,7 +191,8 @@ pub recorded-all : (cs : List Call) (k : Model) → All (Recorded (linksOf (feed
 unfolding All fedAll feedAll Recorded
 recorded-all [] k = tt
 recorded-all (c ∷ cs) k =
-    let g = grown-all cs (feed (fedOf c) k) in
-    ((λ e. subst (λ (ls : List Link). All (Has ls (c .timestamp)) (bodiesOf (c .batch))) (sym (g .1))
-    (all-more (linksOf (feed (fedOf c) k .entries)) (g .0) (c .timestamp) (bodiesOf (c .batch)) (recorded-call c k e))),
-    recorded-all cs (feed (fedOf c) k))
+    let g = grown-all cs (feed (fedOf c) k) in (
+      (λ e. subst (λ (ls : List Link). All (Has ls (c .timestamp)) (bodiesOf (c .batch))) (sym (g .1))
+          (all-more (linksOf (feed (fedOf c) k .entries)) (g .0) (c .timestamp) (bodiesOf (c .batch)) (recorded-call c k e))),
+      recorded-all cs (feed (fedOf c) k),
+    )

@@ -3,7 +3,7 @@
 use Prim.Native.Nat.{ℕ, suc, _+_, _*_, _≤_, _<_}
 use mathlib.Core.Path.{_≡_, refl, sym, ap, subst, _∙_}
 use mathlib.Core.Bool.{true, false, cond}
-use mathlib.Core.Option.{Option, none, some, Option·some-injective}
+use mathlib.Core.Option.{none, some, Option·some-injective}
 use mathlib.Core.List.{List}
 use native.Mathlib.Omega.{arith}
 use native.Mathlib.Numerals.{add-one}
@@ -17,7 +17,7 @@ use Rattle.chain_index.specs.Offsets.{noLink, linkNo}
 use Rattle.manifest.specs.Opening.{opened, states, at-long, at-within}
 use Rattle.opening.specs.Directory.{ManifestAt, EntryAt}
 use Rattle.reading.specs.Live.{liveOf, live, withId, with-retired, with-other, with-here, with-none}
-use Rattle.reading.specs.Answers.{Part, Handed, NotHanded, partOf, partFound, partIn}
+use Rattle.reading.specs.Answers.{Handed, NotHanded, partOf, partFound, partIn}
 use Rattle.file_payload.specs.declared.Place.the-variants.{At, Refused}
 use Rattle.file_payload.specs.Place.{placeOf}
 

@@ -1,6 +1,5 @@
 -- A component by its cases: by its kind, and by its bytes.
 -- Assumes nothing.
-use Prim.Native.Nat.{ℕ}
 use mathlib.Core.Path.{_≡_, refl}
 use mathlib.Core.List.{[], _∷_}
 use Rattle.le.specs.Le.{leOf}

@@ -2,28 +2,27 @@
 -- Assumes nothing.
 use Prim.Native.Nat.{ℕ, _+_, _-_, _*_, _≤_, _<_}
 use mathlib.Core.Path.{_≡_, refl, sym, ap, subst, _∙_}
-use mathlib.Core.Bool.{Bool, true, false, cond}
-use mathlib.Core.Option.{Option, none, some}
+use mathlib.Core.Bool.{cond}
+use mathlib.Core.Option.{some}
 use mathlib.Core.List.{List, [], _∷_}
 use native.Mathlib.Omega.{arith}
 use lib.Dec.{ltb}
 use lib.ListN.{length, take, drop, getD, length-drop}
 use lib.Seq.{drop-drop, drop-cons, length-take-le}
-use borrow.Author.Tests.{lt-ltb, le-ltb, eq-eqb}
+use borrow.Author.Tests.{lt-ltb, le-ltb}
 use Rattle.octets.specs.Parts.{part-front}
 use Rattle.le.specs.Le.{leOf, leAt}
 use Rattle.segment.specs.Header.{Link}
 use Rattle.vecseg.specs.Payload.{checkOf, width}
-use Rattle.vecseg.specs.LineLaws.{LineGood, width-f32}
-use Rattle.vecseg.specs.Find.{Place, findIn, vectorOf, valueAt}
-use Rattle.vecseg.specs.FindLaws.{PlaceGood, found-good}
+use Rattle.vecseg.specs.LineLaws.{width-f32}
+use Rattle.vecseg.specs.Find.{Place, findIn, valueAt}
+use Rattle.vecseg.specs.FindLaws.{found-good}
 use Rattle.vec_find.specs.Found.{foundOf}
 use Rattle.vec_find.specs.declared.Found.the-variants.{At}
 use Rattle.vec_read.specs.Component.{componentOf, byte-wide}
 use Rattle.vec_read.specs.declared.Component.{Component}
 use Rattle.vec_read.specs.Vector.{Bounds, ValueRoom, value-room}
 use Rattle.vec_get.specs.Vector.{vectorIn, vectorBuffer, placedOf, placedBuffer, get-bounds}
-use Rattle.vec_get.specs.declared.Vector.{Vector}
 use Rattle.vec_get.specs.declared.Vector.the-variants.{Refused as VectorRefused}
 use Rattle.reading.specs.Answers.{Hit, Held, Missing, Bad, hitIn, vectorHit, bufferHit, vectorCase, vectorAfter, Value, Stored, NoValue, valueHit, valueIn}
 use Rattle.reading.specs.Placed.{HeldIn, hit-in}

@@ -4,17 +4,17 @@ use Prim.Native.Nat.{ℕ, suc, _+_, _-_, _*_, _≤_, _<_}
 use mathlib.Core.Path.{_≡_, refl, sym, ap, subst, _∙_}
 use mathlib.Core.Bool.{Bool, true, false, cond}
 use mathlib.Core.Option.{Option, none, some, Option·some-injective}
-use mathlib.Core.List.{List, [], _∷_}
+use mathlib.Core.List.{List}
 use native.Mathlib.Omega.{arith}
 use lib.Dec.{eqb}
 use lib.ListN.{length, take, drop, getD}
-use borrow.Author.Tests.{eq-eqb, ne-eqb}
+use borrow.Author.Tests.{ne-eqb}
 use Rattle.le.specs.Le.{leAt}
 use Rattle.limits.specs.Limits.{maxFile}
 use Rattle.chain.specs.Last.{Found}
 use Rattle.segment.specs.Header.{Link, whole}
 use Rattle.segment.specs.Step.{wholeAt}
-use Rattle.chain_index.specs.Offsets.{noLink, linkNo}
+use Rattle.chain_index.specs.Offsets.{linkNo}
 use Rattle.chain_index.specs.Numbered.{Numbered}
 use Rattle.manifest.specs.Opening.{opened, states, at-long, at-within}
 use Rattle.opening.specs.Directory.{ManifestAt, EntryAt}

@@ -4,13 +4,12 @@ use Prim.Native.Nat.{ℕ, _+_, _*_, _≤_, _<_}
 use mathlib.Core.Path.{_≡_, refl, ap, _∙_}
 use mathlib.Core.List.{List}
 use native.Mathlib.Omega.{arith}
-use lib.ListN.{length, take, drop, getD}
+use lib.ListN.{take, drop, getD}
 use lib.Seq.{drop-drop}
 use borrow.Author.Tests.{le-leb, lt-leb}
 use Rattle.octets.specs.Parts.{part-front}
 use Rattle.le.specs.Le.{leOf, leAt}
 use Rattle.chain_index.specs.Offsets.{linkNo}
-use Rattle.manifest.specs.Opening.{opened}
 use Rattle.opening.specs.declared.DirectoryEntry.{DirectoryEntry}
 use Rattle.opening.specs.declared.DirectoryEntry.the-variants.{NoEntry}
 use Rattle.opening.specs.Directory.{ManifestAt, EntryAt}

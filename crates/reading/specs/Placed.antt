@@ -14,7 +14,7 @@ use lib.Seq.{drop-drop}
 use Rattle.limits.specs.Limits.{maxFile}
 use Rattle.chain.specs.Chain.{All}
 use Rattle.chain.specs.Last.{Found, openOf, Stands, last-stands}
-use Rattle.segment.specs.Header.{Link, whole, size}
+use Rattle.segment.specs.Header.{Link, whole}
 use Rattle.segment.specs.Laws.{linkFront, Lies, lies}
 use Rattle.segment.specs.Chained.{chain}
 use Rattle.manifest.specs.Payload.{confirmed}
@@ -23,7 +23,7 @@ use Rattle.manifest_write.specs.Links.{Lying, chain-lying}
 use Rattle.vecseg.specs.Payload.{vecKind}
 use Rattle.vecseg.specs.Find.{Place, findIn}
 use Rattle.reading.specs.Live.{liveOf, live, vectorsOf, searchOrder, withId}
-use Rattle.reading.specs.Answers.{Part, Handed, NotHanded, partOf, partFound, partIn, Hit, Held, Missing, Bad, searchIn, hitFound, hitIn}
+use Rattle.reading.specs.Answers.{Handed, NotHanded, partOf, partFound, partIn, Held, Bad, hitFound, hitIn}
 use Rattle.reading.specs.Laws.{Answered, answered, Good}
 
 -- a link's payload is the file's bytes behind its header

@@ -1,19 +1,21 @@
 -- The cases that document 01 marks (P) under 'Worked numbers': one table, and one statement that all its lines hold. Each layer adds its lines here.
 -- Assumes nothing.
-use Prim.Native.Nat.{ℕ, _-_, _^_}
+use Prim.Native.Nat.{ℕ, _-_, _^_, _≤_, _<_}
 use mathlib.Core.Path.{_≡_, refl}
-use mathlib.Core.Bool.{cond}
+use mathlib.Core.Option.{none}
 use mathlib.Core.List.{List, [], _∷_, _++_}
-use lib.ListN.{replicate}
-use Rattle.answers.specs.Answer.{Refusal}
-use Rattle.le.specs.Le.{leOf, leBytes}
-use Rattle.varint.specs.declared.Varint.{Varint}
-use Rattle.varint.specs.declared.Varint.the-variants.{Value, Refused}
+use lib.ListN.{length, take, replicate}
+use Rattle.answers.specs.Answer.{Accepted, Refusal}
+use Rattle.le.specs.Le.{leBytes}
+use Rattle.varint.specs.declared.Varint.the-variants.{Refused}
 use Rattle.varint.specs.Varint.{leb128, varintOf, more, decode, below64, readVarint}
 use Rattle.idmap.specs.Encode.{mapHead, deltaOf, leftAfter, deltas, restartOf, restarts, intervalOf, mapBytes}
 use Rattle.chain.specs.Chain.{walk, walkF}
 use Rattle.chain.specs.Last.{scan, lastConfirmed, openOf}
-use Rattle.manifest.specs.Opening.{opened, tried, openFound, openAnswer}
+use Rattle.batch.specs.Form.{bodiesOf}
+use Rattle.appending.specs.Append.{manifestAt, appendAnswer, Appends}
+use Rattle.worked.specs.Ends.{noBodies, oneBody, empty-end, manifest-place, body-end, then-empty}
+use Rattle.manifest.specs.Opening.{opened, tried, openFound, atOpened, openAnswer}
 
 -- the list of document 002's delta example
 abbrev example : List ℕ
@@ -34,10 +36,18 @@ pub record Table : Type 0 where
       ++ ((0 ∷ 0 ∷ 0 ∷ 0 ∷ 2 ∷ 0 ∷ 0 ∷ 0 ∷ 4 ∷ 0 ∷ 0 ∷ 0 ∷ []) ++ (0x64 ∷ 0x05 ∷ 0x6C ∷ 0x0C ∷ 0xC8 ∷ 0x01 ∷ []))
   -- opening: N = 0
   pub nothing-opened : openAnswer [] ≡ Refusal 2 (0 ∷ [])
+  -- appending, to a buffer that is long enough. An empty batch on an empty file: end 4,224
+  pub empty-batch : (old : List ℕ) → 4224 ≤ length old → appendAnswer old 0 noBodies [] ≡ Accepted (4224 ∷ 0 ∷ 0 ∷ [])
+  -- one 100-byte META body instead: manifest at 192, end 4,416
+  pub body-place : (body : List ℕ) → length body ≡ 100 → manifestAt none (bodiesOf (oneBody body)) ≡ 192
+  pub body-batch : (body : List ℕ) → length body ≡ 100 → (old : List ℕ) → 4416 ≤ length old → appendAnswer old 0 (oneBody body) [] ≡ Accepted (4416 ∷ 1 ∷ 1 ∷ [])
+  -- an empty batch after it: end 8,704
+  pub then-batch : (body : List ℕ) → length body ≡ 100 → (ts : ℕ) → ts < 2 ^ 64 → (old new vs : List ℕ) → Appends old 0 (oneBody body) [] ts (Accepted vs) new
+      → (old₂ : List ℕ) → 8704 ≤ length old₂ → take 4416 old₂ ≡ take 4416 new → appendAnswer old₂ 4416 noBodies [] ≡ Accepted (8704 ∷ 2 ∷ 2 ∷ [])
 
 -- to unfold this is to unfold what the line names
 open-all : Unit {0}
-unfolding leb128 varintOf more decode below64 readVarint leBytes mapHead deltaOf leftAfter deltas restartOf restarts intervalOf mapBytes openAnswer openFound opened tried openOf lastConfirmed scan walk walkF
+unfolding leb128 varintOf more decode below64 readVarint leBytes mapHead deltaOf leftAfter deltas restartOf restarts intervalOf mapBytes openAnswer atOpened openFound opened tried openOf lastConfirmed scan walk walkF
 open-all = tt
 
 pub table : Table
@@ -53,4 +63,8 @@ table =
       interval-64 = refl;
       interval-2 = refl;
       nothing-opened = refl;
+      empty-batch = empty-end;
+      body-place = manifest-place;
+      body-batch = body-end;
+      then-batch = then-empty;
     }

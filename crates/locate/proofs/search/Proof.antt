@@ -1,10 +1,10 @@
 -- `locate::search` meets its contract, by where the search through the directory stands.
 -- Assumes nothing.
 use Prim.Native.Nat.{ℕ, _-_}
-use mathlib.Core.Path.{_≡_, sym, ap, _∙_}
+use mathlib.Core.Path.{_≡_, sym, _∙_}
 use native.Mathlib.Omega.{arith}
 use lib.ListN.{length}
-use Rattle.opening.specs.Directory.{entry-at, manifest-room}
+use Rattle.opening.specs.Directory.{entry-at}
 use Rattle.locate.specs.Located.{SearchAt, search-first, search-last, search-retired, search-other, search-on, search-stop}
 use borrow.Author.Needs.{needs}
 use Rattle.locate.proofs.search.Statement.{statement}
