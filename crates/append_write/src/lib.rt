@@ -1,0 +1,81 @@
+// What an append writes: the bodies of a batch as segments, and the manifest behind them. The part of the buffer from a segment's place on is handed
+// to the writer of segments.
+ghost use mathlib.Core.Path.{_≡_};
+ghost use mathlib.Core.Bool.{true};
+ghost use mathlib.Core.List.{_++_};
+ghost use Prim.Native.Nat.{_+_, _≤_, _<_, _^_};
+ghost use lib.ListN.{length, take};
+ghost use Rattle.octets.specs.Over.{over};
+ghost use Rattle.octets.specs.Round.{round64};
+ghost use Rattle.segment.specs.Written.{segment};
+ghost use Rattle.segment.specs.Chained.{offsetsOf};
+ghost use Rattle.manifest.specs.Payload.{payloadLength};
+ghost use Rattle.manifest_write.specs.At.{Inside, payloadAt};
+ghost use Rattle.batch.specs.Form.{batchHeld, bodyCount, bodiesOf};
+ghost use Rattle.appending.specs.Append.{bodyLinks, bodyBytes, bodiesEnd};
+
+// Where the bodies of a batch end, if they begin at a place.
+pub fn bodies_end(batch: &[u8], start: usize) -> usize
+    requires { ⌜ (batchHeld (now batch) ≡ true) × (start ≤ 16777216) ⌝ }
+    ensures { λ r. ⌜ r ≡ bodiesEnd start (bodiesOf (now (batch .entry))) ⌝ }
+{
+    let m = le::u32_at(batch, 0) as usize;
+    let mut at = start;
+    let mut j: usize = 0;
+    while j < m {
+        let length = le::u32_at(batch, 16 + 16 * j + 8) as usize;
+        at += 64 + octets::round_up(length);
+        j += 1;
+    }
+    at
+}
+
+// The bodies of a batch as segments from a place on, with ids that go on from the first; and where each begins, behind the first `kept` offsets.
+pub fn put_bodies(
+    buf: &mut [u8],
+    batch: &[u8],
+    start: usize,
+    first_id: u64,
+    timestamp: u64,
+    offsets: &mut [u64],
+    kept: usize,
+)
+    requires { ⌜ (batchHeld (now batch) ≡ true) × (bodiesEnd start (bodiesOf (now batch)) ≤ length (now buf)) ⌝ }
+    requires { ⌜ («first_id» + bodyCount (now batch) < 2 ^ 64) × (kept + bodyCount (now batch) ≤ length (now offsets)) ⌝ }
+    ensures { λ _. ⌜ now (buf .exit) ≡ over (now (buf .entry)) start (bodyBytes «first_id» timestamp (bodiesOf (now (batch .entry)))) ⌝ }
+    ensures { λ _. ⌜ now (offsets .exit) ≡ over (now (offsets .entry)) kept (offsetsOf (bodyLinks start «first_id» timestamp (bodiesOf (now (batch .entry))))) ⌝ }
+{
+    let m = le::u32_at(batch, 0) as usize;
+    let mut at = start;
+    let mut j: usize = 0;
+    while j < m {
+        let line = 16 + 16 * j;
+        let kind = batch[line];
+        let flags = le::u16_at(batch, line + 2);
+        let from = le::u32_at(batch, line + 4) as usize;
+        let to = from + le::u32_at(batch, line + 8) as usize;
+        offsets[kept + j] = at as u64;
+        at += segment_write::put_segment(&mut buf[at..], kind, flags, first_id + j as u64, timestamp, &batch[from..to]);
+        j += 1;
+    }
+}
+
+// The manifest of the links at some offsets, with their states, as a segment at a place. Its payload is put together in a list of our own, since the
+// headers that it copies stand in the same buffer.
+pub fn put_manifest(
+    buf: &mut [u8],
+    at: usize,
+    id: u64,
+    timestamp: u64,
+    offsets: &[u64],
+    states: &[u8],
+)
+    requires { ⌜ (length (now offsets) ≤ 1024) × (length (now offsets) ≤ length (now states)) ⌝ }
+    requires { ⌜ (at + (64 + round64 (payloadLength (length (now offsets)))) ≤ length (now buf)) × (at ≤ 16777216) ⌝ }
+    requires { ⌜ Inside (take at (now buf)) (now offsets) ⌝ }
+    ensures { λ _. ⌜ now (buf .exit) ≡ over (now (buf .entry)) at (segment 5 0 id timestamp (payloadAt (take at (now (buf .entry))) (now (offsets .entry)) (now (states .entry)) at id)) ⌝ }
+{
+    let mut payload = [0u8; 53312];
+    let n = manifest_write::put_payload(&mut payload, &buf[..at], offsets, states, at as u64, id);
+    segment_write::put_segment(&mut buf[at..], 0x05, 0, id, timestamp, &payload[..n]);
+}
