@@ -79,7 +79,7 @@ accepted-when room n o batch ids vs q =
     )
 
 -- and the other way: what passes every test is accepted
-empty-passes : (n : ℕ) (o : Option (Found Link)) → (o ≡ none → n ≡ 0) → ltb 0 n && isNone o ≡ false
+pub empty-passes : (n : ℕ) (o : Option (Found Link)) → (o ≡ none → n ≡ 0) → ltb 0 n && isNone o ≡ false
 unfolding isNone
 empty-passes n none h = rw (h refl)
 empty-passes n (some r) h = pick (ltb 0 n)

@@ -26,7 +26,7 @@ use Rattle.appending.specs.Opens.{kept, newManifest, fileWith, cutFile, 
 -- ---- the start lies in the file
 
 module _ (f : List ℕ) where
-  kept-is : last.keptOf reader confirmed start f ≡ take (startOf (opened f)) f
+  pub kept-is : last.keptOf reader confirmed start f ≡ take (startOf (opened f)) f
   unfolding last.keptOf opened
   kept-is = ap (λ (n : ℕ). take n f) (kept f .sizes-is)
 

@@ -35,7 +35,7 @@ unfolding All
 all-append P [] ys t u = u
 all-append P (x ∷ xs) ys t u = (t .0, all-append P xs ys (t .1) u)
 
-rising-front : (xs ys : List Link) (least : ℕ) → Rising least (xs ++ ys) → Rising least xs
+pub rising-front : (xs ys : List Link) (least : ℕ) → Rising least (xs ++ ys) → Rising least xs
 unfolding Rising
 rising-front [] ys least r = tt
 rising-front (x ∷ xs) ys least r = (r .0, rising-front xs ys (x .id + 1) (r .1))

@@ -3,8 +3,8 @@
 -- Assumes nothing.
 use Prim.Native.Nat.{ℕ, zero, suc, _+_, _-_, _*_, _≤_, _<_}
 use mathlib.Core.Path.{_≡_, refl, sym, ap, _∙_}
-use mathlib.Core.Bool.{Bool, true, false, not, _&&_}
-use mathlib.Core.List.{List, [], _∷_}
+use mathlib.Core.Bool.{Bool, true, false, _&&_}
+use mathlib.Core.List.{List, []}
 use native.Mathlib.Nat.{add-zero}
 use native.Mathlib.Omega.{arith}
 use lib.Dec.{eqb, leb}
@@ -13,7 +13,7 @@ use lib.Seq.{length-take-le, getD-take, getD-drop, drop-drop}
 use borrow.Author.Tests.{le-leb, lt-leb, eq-eqb, ne-eqb, leb-true, eqb-true}
 use Rattle.octets.specs.Zero.{allZero, and-split}
 use Rattle.octets.specs.Parts.{part-front}
-use Rattle.le.specs.Le.{leOf, leAt}
+use Rattle.le.specs.Le.{leAt}
 use Rattle.limits.specs.Limits.{maxBodies, maxBatch}
 use Rattle.segment.specs.Header.{typeHeld, flagsHeld}
 use Rattle.segment.specs.Tests.{second-fails}
@@ -51,9 +51,11 @@ module _ (at : ℕ) (x : List ℕ) where
   unfolding lineHeld
   line-flags e = rw (e, second-fails (bodyKindHeld (getD x 0 0) && eqb (getD x 1 0) 0))
 
-  pub line-offset : (leAt 4 x 4 ≡ at → ⊥) → false ≡ lineHeld at x
+  -- r is the offset as the code has read it
+  pub line-offset : (r : ℕ) → r ≡ leAt 4 x 4 → (r ≡ at → ⊥) → false ≡ lineHeld at x
   unfolding lineHeld
-  line-offset n = rw (ne-eqb (leAt 4 x 4) at n, second-fails (bodyKindHeld (getD x 0 0) && eqb (getD x 1 0) 0 && flagsHeld (leAt 2 x 2)))
+  line-offset r r-is n =
+      rw (ne-eqb (leAt 4 x 4) at (λ e. n (r-is ∙ e)), second-fails (bodyKindHeld (getD x 0 0) && eqb (getD x 1 0) 0 && flagsHeld (leAt 2 x 2)))
 
   -- all but the last hold, and the last decides
   pub line-holds : (r : Bool) → typeHeld (getD x 0 0) ≡ true → (getD x 0 0 ≡ 5 → ⊥) → getD x 1 0 ≡ 0 → flagsHeld (leAt 2 x 2) ≡ true → leAt 4 x 4 ≡ at

@@ -18,7 +18,7 @@ use Rattle.manifest_check.specs.At.{confirmedAt}
 use Rattle.manifest_check.specs.Links.{before-inside, confirmed-at}
 
 -- the offsets of some first links are the first offsets
-first-some : (ls : List Link) (i : ℕ) → offsetsOf (take i ls) ≡ take i (offsetsOf ls)
+pub first-some : (ls : List Link) (i : ℕ) → offsetsOf (take i ls) ≡ take i (offsetsOf ls)
 first-some ls zero = refl
 first-some [] (suc i) = refl
 first-some (l ∷ ls) (suc i) = ap (λ (xs : List ℕ). l .offset ∷ xs) (first-some ls i)

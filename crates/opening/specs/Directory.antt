@@ -1,23 +1,23 @@
 -- What an answer of opening says of the file, and where the parts of the directory's entry with an index stand: the header at the link's offset, and
 -- the state in the manifest's payload. Every reading call goes by these.
 -- Assumes nothing.
-use Prim.Native.Nat.{ℕ, _+_, _*_, _≤_, _<_}
-use mathlib.Core.Path.{_≡_, refl, sym, ap, subst, _∙_}
+use Prim.Native.Nat.{ℕ, suc, _+_, _*_, _≤_, _<_}
+use mathlib.Core.Path.{_≡_, refl, sym, ap, ap₂, subst, _∙_}
 use mathlib.Core.Bool.{true, false, _&&_}
 use mathlib.Core.Option.{Option, none, some}
-use mathlib.Core.List.{List, _∷_}
+use mathlib.Core.List.{List, [], _∷_, _++_}
 use native.Mathlib.Omega.{arith}
 use native.Mathlib.Nat.{lt-of-not-le}
 use native.Mathlib.Decide.{decLe}
 use lib.Dec.{eqb, leb}
 use lib.ListN.{length, take, drop, getD, length-map}
-use lib.Seq.{getD-take, getD-drop}
+use lib.Seq.{getD-take, getD-drop, take-take, take-suc}
 use Rattle.octets.specs.Zero.{same-equal, and-split}
-use Rattle.le.specs.Le.{Bytes}
+use Rattle.le.specs.Le.{Bytes, leAt}
 use Rattle.limits.specs.Limits.{maxFile, maxEntries}
 use Rattle.chain.specs.Chain.{sizes}
 use Rattle.chain.specs.Last.{Found, openOf, Stands, last-stands}
-use Rattle.segment.specs.Header.{Link, whole, reader}
+use Rattle.segment.specs.Header.{Link, whole, size, reader}
 use Rattle.segment.specs.Chained.{chain, offsetsOf, link-place}
 use Rattle.chain_index.specs.Offsets.{most, noLink, linkNo, Stored, stored-has, stored-few}
 use Rattle.chain_index.specs.Numbered.{Numbered, numbered, numbered-at, number-of}
@@ -29,6 +29,7 @@ use Rattle.manifest_write.specs.Links.{lying-inside, payload-lying, chain-lying
 use Rattle.opening.specs.declared.Opened.{Opened}
 use Rattle.opening.specs.declared.Opened.the-variants.{At, NoManifest, Refused}
 use Rattle.opening.specs.Opened.{foundCase, openedCase, bounded}
+use Rattle.opening.specs.Candidate.{first-some}
 
 -- ---- what an answer says
 
@@ -95,6 +96,16 @@ module _ (f : List ℕ) where
       go none p q = absurd (let z : _≡_ {A = ℕ} 0 1 = cc in omega arith)
       go (some r) p q = record { within = within; found = r; opens = p; offset-is = cc; count-is = cc; stands = last-stands confirmed (chain f) r p }
 
+  -- the end and the id that are answered with it
+  pub opened-end : (offset end id count t : ℕ) (e : openedCase f ≡ At offset end id count t)
+      → (opened-at offset end id count t e .found .link .offset + size (opened-at offset end id count t e .found .link) ≡ end)
+      × (opened-at offset end id count t e .found .link .id ≡ id)
+  unfolding foundCase
+  opened-end offset end id count t e =
+      let m = opened-at offset end id count t e in
+      let q : foundCase f (some (m .found)) ≡ At offset end id count t = ap (foundCase f) (sym (m .opens)) ∙ sym (within-case (m .within)) ∙ e in
+      (cc, cc)
+
 -- ---- the entry with an index
 
 -- a confirmed manifest's payload is the one of the links before it
@@ -160,6 +171,42 @@ module _ (f offsets : List ℕ) (offset count : ℕ) (t : Bytes f) (s : Indexed 
       let p = link-place f b (m .stands .rest) l (m .stands .split) in
       subst (λ (x : Link). Numbered f offset (length b) x) (sym (numbers .1 .1))
       (numbered f offset (length b) (numbers .0) (sym (ap (λ (ls : List Link). sizes reader ls) (numbers .1 .0)) ∙ sym p ∙ m .offset-is))
+
+  -- its payload is the file's bytes behind its header, and has room for the entries
+  pub manifest-part : (offset + (64 + leAt 8 f (offset + 0x10)) ≤ length f)
+      × ((take (leAt 8 f (offset + 0x10)) (drop (offset + 64) f) ≡ m .found .link .payload) × (8 + 48 * count ≤ leAt 8 f (offset + 0x10)))
+  manifest-part =
+      let n = manifest-numbered in
+      let k = n .length-is in
+      let e = entries-inside in
+      (omega (arith, n .room, k), (ap (λ (j : ℕ). take j (drop (offset + 64) f)) (sym k) ∙ sym (n .payload-is), omega (arith, e, k)))
+
+  -- the first offsets are those of the directory's links; and of these and the manifest
+  front-offsets : (i : ℕ) → i ≤ length (take most (chain f)) → offsetsOf (take i (chain f)) ≡ take i offsets
+  front-offsets i h =
+      let n = stored-few f offsets _ s .1 in
+      ap offsetsOf (sym (take-take i most (chain f) (omega arith)))
+      ∙ first-some (take most (chain f)) i
+      ∙ ap (take i) (sym (s .stored))
+      ∙ take-take i (length (take most (chain f))) offsets h
+
+  manifest-stored : count < length (take most (chain f))
+  manifest-stored = let q = few in stored-has f offsets _ s count (omega (arith, m .count-is, numbers .0)) (omega arith)
+
+  pub before-offsets : offsetsOf (m .found .before) ≡ take count offsets
+  before-offsets =
+      let h = manifest-stored in
+      ap offsetsOf (numbers .1 .0 ∙ ap (λ (k : ℕ). take k (chain f)) (m .count-is)) ∙ front-offsets count (omega arith)
+
+  pub kept-offsets : offsetsOf (m .found .before ++ m .found .link ∷ []) ≡ take (count + 1) offsets
+  kept-offsets =
+      let h = manifest-stored in
+      let n : length (m .found .before) + 1 ≡ suc (length (m .found .before)) = omega arith in
+      let all : take (length (m .found .before) + 1) (chain f) ≡ m .found .before ++ m .found .link ∷ [] =
+      ap (λ (k : ℕ). take k (chain f)) n
+      ∙ take-suc (chain f) (length (m .found .before)) noLink (numbers .0)
+      ∙ ap₂ (λ (ls : List Link) (x : Link). ls ++ x ∷ []) (sym (numbers .1 .0)) (sym (numbers .1 .1)) in
+      ap offsetsOf (sym all ∙ ap (λ (k : ℕ). take (k + 1) (chain f)) (m .count-is)) ∙ front-offsets (count + 1) (omega arith)
 
   pub manifest-room : (offset + 64 ≤ length f) × (count ≤ maxEntries)
   manifest-room = let r = manifest-numbered .room in let q = few in (omega arith, q)

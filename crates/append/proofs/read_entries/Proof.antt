@@ -1,0 +1,86 @@
+-- `append::read_entries` meets its contract, by where its loop stands.
+-- Assumes nothing.
+use Prim.Native.Nat.{_-_}
+use native.Mathlib.Omega.{arith}
+use lib.ListN.{length}
+use Rattle.append.specs.Entries.{ReadAt, read-first, read-next, read-last}
+use borrow.Author.Needs.{needs}
+use Rattle.append.proofs.read_entries.Statement.{statement}
+use Rattle.append.proofs.read_entries.Tie as tie
+
+abbrev Inv-loop : tie.InvT-loop
+Inv-loop file offsets entry-ids₀ kinds₀ i₀ entry-ids kinds i = ReadAt file offsets entry-ids₀ entry-ids kinds₀ kinds i
+
+abbrev μ-loop : tie.MeasureT-loop
+μ-loop file offsets entry-ids₀ kinds₀ i₀ entry-ids kinds i = length offsets - i
+
+loop-holds : tie.Need-loop-holds Inv-loop μ-loop
+loop-holds c = read-first _ _ _ _
+
+mul-offset : tie.Need-mul-offset Inv-loop μ-loop
+mul-offset c = omega arith
+
+shared-slice-read-offset : tie.Need-shared-slice-read-offset Inv-loop μ-loop
+shared-slice-read-offset c = omega arith
+
+add-u64-at : tie.Need-add-u64-at Inv-loop μ-loop
+add-u64-at c = omega (arith, c .before .before .before .before .before .before .before .pre .1 (c .before .before .loop .i) (omega arith))
+
+u64-at-requires : tie.Need-u64-at-requires Inv-loop μ-loop
+u64-at-requires c κs = omega (arith, c .before .before .before .before .before .before .before .pre .1 (c .before .before .loop .i) (omega arith))
+
+mul-entry-ids : tie.Need-mul-entry-ids Inv-loop μ-loop
+mul-entry-ids c = omega (arith, c .before .before .before .loop .inv .ids-long, c .before .before .before .before .before .before .before .before .pre .0 .0)
+
+slice-write-entry-ids : tie.Need-slice-write-entry-ids Inv-loop μ-loop
+slice-write-entry-ids c = omega (arith, c .before .before .before .loop .inv .ids-long, c .before .before .before .before .before .before .before .before .pre .0 .0)
+
+add-kinds : tie.Need-add-kinds Inv-loop μ-loop
+add-kinds c = omega (arith, c .before .before .before .before .before .before .before .before .pre .1 (c .before .before .before .loop .i) (omega arith))
+
+shared-slice-read-kinds : tie.Need-shared-slice-read-kinds Inv-loop μ-loop
+shared-slice-read-kinds c = omega (arith, c .before .before .before .before .before .before .before .before .before .pre .1 (c .before .before .before .before .loop .i) (omega arith))
+
+slice-write-kinds : tie.Need-slice-write-kinds Inv-loop μ-loop
+slice-write-kinds c = omega (arith, c .before .before .before .before .loop .inv .kinds-long, c .before .before .before .before .before .before .before .before .before .pre .0 .1)
+
+add-i : tie.Need-add-i Inv-loop μ-loop
+add-i c = omega arith
+
+loop-less : tie.Need-loop-less Inv-loop μ-loop
+loop-less c = omega arith
+
+loop-again : tie.Need-loop-again Inv-loop μ-loop
+loop-again c = read-next _ _ _ _ _ _ _ (c .before .before .before .before .loop .inv) (omega arith) (c .before .before .before .before .before .before .before .before .before .pre .0 .0) (c .before .before .before .before .before .before .before .before .before .pre .0 .1) _ (c .before .u64-at .ensures)
+
+same-length : tie.Need-same-length Inv-loop μ-loop
+same-length c = search needs
+
+same-length-2 : tie.Need-same-length-2 Inv-loop μ-loop
+same-length-2 c = search needs
+
+returns : tie.Need-returns Inv-loop μ-loop
+returns c = read-last _ _ _ _ _ _ _ (c .before .loop .inv) (omega arith)
+
+pub read-entries-spec : {M : Type 1} → statement M
+read-entries-spec =
+    tie.close
+    (tie.spec
+    Inv-loop
+    μ-loop
+    loop-holds
+    mul-offset
+    shared-slice-read-offset
+    add-u64-at
+    u64-at-requires
+    mul-entry-ids
+    slice-write-entry-ids
+    add-kinds
+    shared-slice-read-kinds
+    slice-write-kinds
+    add-i
+    loop-less
+    loop-again
+    same-length
+    same-length-2
+    returns)

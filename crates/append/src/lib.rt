@@ -1,0 +1,195 @@
+// Appending a batch to a file. Every test is made before the first byte is written: a refusal leaves the buffer as it was.
+ghost use mathlib.Core.Path.{_≡_};
+ghost use mathlib.Core.Bool.{true, not};
+ghost use mathlib.Core.List.{_++_};
+ghost use Prim.Native.Nat.{_+_, _-_, _≤_, _<_, _^_};
+ghost use lib.Dec.{ltb};
+ghost use lib.ListN.{length, take, replicate};
+ghost use Rattle.octets.specs.Over.{over};
+ghost use Rattle.segment.specs.Chained.{chain};
+ghost use Rattle.chain_index.specs.Offsets.{most};
+ghost use Rattle.manifest.specs.Opening.{opened};
+ghost use Rattle.manifest_write.specs.At.{Inside};
+ghost use Rattle.opening.specs.Directory.{ManifestAt, Indexed};
+ghost use Rattle.batch.specs.Form.{batchHeld, bodiesOf};
+ghost use Rattle.appending.specs.Retire.{retireHeld, retired};
+ghost use Rattle.appending.specs.Append.{oldLinks, oldStates, newCount, Appends};
+ghost use Rattle.append.specs.Answer.{appendedAnswer, batchNumber};
+ghost use Rattle.append.specs.Entries.{idsAt, kindsAt};
+ghost use Rattle.append.specs.Late.{nextOf, lateAnswer, lateBuffer};
+ghost use Rattle.append.specs.Base.{Base};
+use opening::Opened;
+
+// What an append answers: the new end, the manifest's id and the number of its entries; or the number of a refusal.
+pub enum Appended {
+    At {
+        end: usize,
+        id: u64,
+        count: usize,
+    },
+    Refused(u32),
+}
+
+// The number that a batch is refused with: 10 for its form, then that of its first bad vector body; 0 where it is taken.
+fn batch_number(batch: &[u8]) -> u32
+    ensures { λ r. ⌜ r ≡ batchNumber (now (batch .entry)) ⌝ }
+{
+    if !batch_check::check(batch) {
+        return 10;
+    }
+    batch_check::vectors_bad(batch)
+}
+
+// The ids and types of the links at some offsets, at the front of two lists.
+fn read_entries(file: &[u8], offsets: &[u64], entry_ids: &mut [u64], kinds: &mut [u8])
+    requires { ⌜ (length (now offsets) ≤ length (now «entry_ids»)) × (length (now offsets) ≤ length (now kinds)) ⌝ }
+    requires { ⌜ Inside (now file) (now offsets) ⌝ }
+    ensures { λ _. ⌜ now («entry_ids» .exit) ≡ over (now («entry_ids» .entry)) 0 (idsAt (now (file .entry)) (now (offsets .entry))) ⌝ }
+    ensures { λ _. ⌜ now (kinds .exit) ≡ over (now (kinds .entry)) 0 (kindsAt (now (file .entry)) (now (offsets .entry))) ⌝ }
+{
+    let mut i: usize = 0;
+    while i < offsets.len() {
+        let offset = offsets[i] as usize;
+        entry_ids[i] = le::u64_at(file, offset + 0x08);
+        kinds[i] = file[offset + 0x05];
+        i += 1;
+    }
+}
+
+// The states of the directory with some ids retired, in a list of zeros; false where an id may not be retired.
+fn retire_states(
+    file: &[u8],
+    offsets: &[u64],
+    manifest: usize,
+    count: usize,
+    ids: &[u64],
+    states: &mut [u8],
+) -> bool
+    requires { ⌜ (most ≤ length (now offsets)) × (now states ≡ replicate 1024 0) ⌝ }
+    requires { ⌜ Indexed (now file) (now offsets) ⌝ }
+    requires { ⌜ ManifestAt (now file) manifest count ⌝ }
+    ensures { λ r. ⌜ r ≡ retireHeld (oldLinks (opened (now (file .entry)))) (oldStates (opened (now (file .entry)))) (now (ids .entry)) ⌝ }
+    ensures { λ r. ⌜ (r ≡ true → now (states .exit) ≡ retired (oldLinks (opened (now (file .entry)))) (oldStates (opened (now (file .entry)))) (now (ids .entry)) ++ replicate (1024 - count) 0) ⌝ }
+{
+    let body = manifest + 64;
+    let end = body + le::u64_at(file, manifest + 0x10) as usize;
+    manifest_check::read_states(states, &file[body..end], count);
+    let mut entry_ids = [0u64; 1024];
+    let mut kinds = [0u8; 1024];
+    read_entries(file, &offsets[..count], &mut entry_ids, &mut kinds);
+    retire::mark(&entry_ids[..count], &kinds[..count], &mut states[..count], ids)
+}
+
+// Whether the new manifest's id would pass the largest number: ids go on from `last`, or from 0 in an empty file.
+fn ids_over(first: bool, last: u64, m: u64) -> bool
+    requires { ⌜ m ≤ 16 ⌝ }
+    ensures { λ r. ⌜ r ≡ ltb (2 ^ 64 - 1) (nextOf first last + m) ⌝ }
+{
+    if first {
+        return false;
+    }
+    0xFFFFFFFFFFFFFFFF - last <= m
+}
+
+// The next id.
+fn next_id(first: bool, last: u64) -> u64
+    requires { ⌜ nextOf first last < 2 ^ 64 ⌝ }
+    ensures { λ r. ⌜ r ≡ nextOf first last ⌝ }
+{
+    if first {
+        return 0;
+    }
+    last + 1
+}
+
+// The rest of an append, behind the tests of the file, the batch and the ids: 12, 13, 1, 9; then all is written. The file is what is kept, the bytes
+// up to the start.
+fn finish(
+    buf: &mut [u8],
+    batch: &[u8],
+    start: usize,
+    kept: usize,
+    first: bool,
+    last: u64,
+    timestamp: u64,
+    offsets: &mut [u64],
+    states: &[u8],
+) -> Appended
+    requires { ⌜ (batchHeld (now batch) ≡ true) × ((length (now offsets) ≡ most) × (length (now states) ≡ 1024)) ⌝ }
+    requires { ⌜ Base (take start (now buf)) (now offsets) start kept first last ⌝ }
+    ensures { λ r. ⌜ appendedAnswer r ≡ lateAnswer (length (now (buf .entry))) (opened (take start (now (buf .entry)))) (bodiesOf (now (batch .entry))) ⌝ }
+    ensures { λ _. ⌜ now (buf .exit) ≡ lateBuffer (opened (take start (now (buf .entry)))) (now (buf .entry)) (bodiesOf (now (batch .entry))) (now (states .entry)) timestamp ⌝ }
+{
+    let m = le::u32_at(batch, 0) as usize;
+    let count = kept + m;
+    if count > limits::MAX_ENTRIES {
+        return Appended::Refused(12);
+    }
+    if ids_over(first, last, m as u64) {
+        return Appended::Refused(13);
+    }
+    let next = next_id(first, last);
+    let at = append_write::bodies_end(batch, start);
+    let end = at + 64 + octets::round_up(octets::round_up(8 + 48 * count) + 4096);
+    if end > limits::MAX_FILE {
+        return Appended::Refused(1);
+    }
+    if end > buf.len() {
+        return Appended::Refused(9);
+    }
+    let id = next + m as u64;
+    append_write::put_bodies(buf, batch, start, next, timestamp, offsets, kept);
+    append_write::put_manifest(buf, at, id, timestamp, &offsets[..count], &states[..count]);
+    Appended::At { end, id, count }
+}
+
+// A batch appended to the file that is the first n bytes of a buffer, some ids retired. In order: n above the buffer 9, n above the limit 1, no manifest
+// in a file that is not empty 2, the batch's form 10, its vector bodies 5, 6, 7, retirement 11, entries 12, ids 13, the new end above the limit 1 or
+// the buffer 9.
+pub fn append(buf: &mut [u8], n: u64, batch: &[u8], ids: &[u64], timestamp: u64) -> Appended
+    ensures { λ r. ⌜ Appends (now (buf .entry)) n (now (batch .entry)) (now (ids .entry)) timestamp (appendedAnswer r) (now (buf .exit)) ⌝ }
+{
+    if n > buf.len() as u64 {
+        return Appended::Refused(9);
+    }
+    if n > limits::MAX_FILE as u64 {
+        return Appended::Refused(1);
+    }
+    let size = n as usize;
+    let mut offsets = [0u64; 1025];
+    let found = opening::open_with(&buf[..size], &mut offsets);
+    match found {
+        Opened::Refused(number) => Appended::Refused(number),
+        Opened::NoManifest { tried: _ } => {
+            if size > 0 {
+                return Appended::Refused(2);
+            }
+            let bad = batch_number(batch);
+            if bad != 0 {
+                return Appended::Refused(bad);
+            }
+            if ids.len() > 0 {
+                return Appended::Refused(11);
+            }
+            let states = [0u8; 1024];
+            finish(buf, batch, 0, 0, true, 0, timestamp, &mut offsets, &states)
+        }
+        Opened::At {
+            offset,
+            end,
+            id,
+            count,
+            tried: _,
+        } => {
+            let bad = batch_number(batch);
+            if bad != 0 {
+                return Appended::Refused(bad);
+            }
+            let mut states = [0u8; 1024];
+            if !retire_states(&buf[..size], &offsets, offset, count, ids, &mut states) {
+                return Appended::Refused(11);
+            }
+            finish(buf, batch, end, count + 1, false, id, timestamp, &mut offsets, &states)
+        }
+    }
+}

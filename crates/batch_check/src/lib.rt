@@ -1,0 +1,98 @@
+// The check of a batch, which must have the form whole before an append takes anything of it; and the check of its vector bodies.
+ghost use mathlib.Core.Bool.{true};
+ghost use mathlib.Core.Path.{_≡_};
+ghost use Prim.Native.Nat.{_<_};
+ghost use lib.ListN.{length, getD};
+ghost use Rattle.batch.specs.Form.{lineHeld, batchHeld, bodyCount, bodiesOf};
+ghost use Rattle.batch.specs.Lines.{noBody};
+ghost use Rattle.appending.specs.Append.{vectorsBad};
+ghost use Rattle.batch_check.specs.Vectors.{bodyBad};
+
+// Whether a line of a batch has the form, where its body is to begin at `at`. A manifest is no body: an append writes it itself.
+fn line_held(line: &[u8], at: usize) -> bool
+    requires { ⌜ length (now line) ≡ 16 ⌝ }
+    ensures { λ r. ⌜ r ≡ lineHeld at (now (line .entry)) ⌝ }
+{
+    if !segment::kind_held(line[0]) {
+        return false;
+    }
+    if line[0] == 0x05 {
+        return false;
+    }
+    if line[1] != 0 {
+        return false;
+    }
+    if !segment::flags_held(le::u16_at(line, 2)) {
+        return false;
+    }
+    if le::u32_at(line, 4) as usize != at {
+        return false;
+    }
+    octets::is_zero(&line[12..16])
+}
+
+// Whether a batch has the form. The lengths of at most 16 bodies are added up without a test between: the sum fits.
+pub fn check(batch: &[u8]) -> bool
+    ensures { λ r. ⌜ r ≡ batchHeld (now (batch .entry)) ⌝ }
+{
+    if batch.len() < 16 {
+        return false;
+    }
+    if batch.len() > limits::MAX_BATCH {
+        return false;
+    }
+    let bodies = le::u32_at(batch, 0) as usize;
+    if bodies > limits::MAX_BODIES {
+        return false;
+    }
+    if !octets::is_zero(&batch[4..16]) {
+        return false;
+    }
+    let mut at = 16 + 16 * bodies;
+    if batch.len() < at {
+        return false;
+    }
+    let mut i: usize = 0;
+    while i < bodies {
+        let line = 16 + 16 * i;
+        let end = line + 16;
+        if !line_held(&batch[line..end], at) {
+            return false;
+        }
+        at += le::u32_at(batch, line + 8) as usize;
+        i += 1;
+    }
+    at == batch.len()
+}
+
+// The number that refuses body j of a batch: a body of another type is not looked into.
+fn body_bad(batch: &[u8], j: usize) -> u32
+    requires { ⌜ batchHeld (now batch) ≡ true ⌝ }
+    requires { ⌜ j < bodyCount (now batch) ⌝ }
+    ensures { λ r. ⌜ r ≡ bodyBad (getD (bodiesOf (now (batch .entry))) j noBody) ⌝ }
+{
+    let line = 16 + 16 * j;
+    if batch[line] != 0x01 {
+        return 0;
+    }
+    let from = le::u32_at(batch, line + 4) as usize;
+    let end = from + le::u32_at(batch, line + 8) as usize;
+    vec_check::check(&batch[from..end])
+}
+
+// The number of the first vector body that is not sound, 0 where all are.
+pub fn vectors_bad(batch: &[u8]) -> u32
+    requires { ⌜ batchHeld (now batch) ≡ true ⌝ }
+    ensures { λ r. ⌜ r ≡ vectorsBad (bodiesOf (now (batch .entry))) ⌝ }
+{
+    let count = le::u32_at(batch, 0) as usize;
+    let mut j: usize = 0;
+    while j < count {
+        let bad = body_bad(batch, j);
+        if bad != 0 {
+            return bad;
+        }
+        j += 1;
+    }
+    0
+}
