@@ -3,3 +3,4 @@ mod by_id;
 mod files;
 mod leaves;
 mod payloads;
+mod writing;
