@@ -4,7 +4,7 @@
  * values to `out`. A refused call changes no byte of any buffer that it was lent, `out` included.
  * A slice is a pointer and a length in elements; for length 0 the pointer must still not be null.
  *
- *   1  file above 16,777,216 bytes
+ *   1  file, or file after the append, above 16,777,216 bytes
  *   2  no confirmed manifest
  *   3  no live segment with this id in the directory
  *   4  content hash differs
@@ -12,7 +12,11 @@
  *   6  dtype not held
  *   7  block checksum differs
  *   8  no such vector, or component index at or above dim
- *   9  lent buffer too short
+ *   9  buffer too short
+ *  10  batch breaks a rule
+ *  11  an id to retire is not in the directory, is of type 0x05, is retired, or stands in the list twice
+ *  12  directory would have more than 1,024 entries
+ *  13  an id would pass 2^64 - 1
  *  14  writer's input breaks a rule
  */
 #ifndef RVF_H
@@ -80,6 +84,14 @@ uint32_t rvf_vector(const uint8_t *file, size_t len, uint64_t id, uint8_t *buffe
  * number: dtype 0 the four bytes of the f32 (a NaN's payload included), 3 and 4 the byte. Refuses as rvf_vector, without 9;
  * 8 also for an index at or above dim. */
 uint32_t rvf_component(const uint8_t *file, size_t len, uint64_t id, uint64_t index, uint64_t out[2]);
+
+/* A batch appended to the file that is the first n bytes of the buffer; the ids in `retire` become retired. The batch: body
+ * count u32, 12 zero bytes; a line of 16 bytes for each body (type u8, zero u8, flags u16, offset u32 from the batch's start,
+ * length u32, zero u32); then the bodies in line order, without gaps. out: the new end, which is the file's length from now on,
+ * the new manifest's id, the number of its entries. Bytes before the old manifest's end and from the new end on stay. Refuses 9
+ * (n above the buffer), 1, 2, 10, then 5, 6 or 7 of a vector body, 11, 12, 13, 1, 9. */
+uint32_t rvf_append(uint8_t *buffer, size_t len, uint64_t n, const uint8_t *batch, size_t batch_len, const uint64_t *retire,
+                    size_t retire_len, uint64_t timestamp, uint64_t out[3]);
 
 #ifdef __cplusplus
 }

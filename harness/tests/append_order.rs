@@ -203,3 +203,46 @@ fn every_retirement() {
     let mut buffer = vec![0; 5_000];
     assert_eq!(same_append(&mut buffer, 0, &batch_of(&[(7, 0, b"")]), &[0], 1, "an empty file").number, 11);
 }
+
+/// The rules' worked ends, and a directory filled to its bound: a manifest of 1,024
+/// entries takes 53,376 bytes with its header, one entry more is refused.
+#[test]
+fn worked_ends_and_a_full_directory() {
+    let mut buffer = vec![0; 9_000];
+    assert_eq!(same_append(&mut buffer, 0, &batch_of(&[]), &[], 1, "an empty batch").out, [4_224, 0, 0]);
+    let mut buffer = vec![0; 9_000];
+    let body = [5u8; 100];
+    assert_eq!(same_append(&mut buffer, 0, &batch_of(&[(7, 0, &body)]), &[], 1, "100 bytes").out, [4_416, 1, 1]);
+    assert_eq!(&buffer[192..196], &[0x52, 0x56, 0x46, 0x53], "the manifest stands at 192");
+    assert_eq!(same_append(&mut buffer, 4_416, &batch_of(&[]), &[], 1, "an empty batch after it").out, [8_704, 2, 2]);
+
+    // 15 bodies and the manifest before: 16 entries more each time.
+    let mut buffer = vec![0; limits::FILE];
+    let (mut n, mut count, mut before) = (0u64, 0u64, 0u64);
+    let batch = batch_of(&vec![(7u8, 0u16, &b""[..]); 15]);
+    while count < 1_008 {
+        before = n;
+        let outcome = same_append(&mut buffer, n, &batch, &[], 1, "15 bodies");
+        assert_eq!(outcome.number, 0);
+        (n, count) = (outcome.out[0], outcome.out[2]);
+    }
+    // 1,007 entries by now with the last manifest outside: one less than 1,008 at the first.
+    let missing = 1_024 - count - 1;
+    let fill = batch_of(&vec![(7u8, 0u16, &b""[..]); missing as usize]);
+    let outcome = same_append(&mut buffer, n, &fill, &[], 1, "filled");
+    assert_eq!((outcome.number, outcome.out[2]), (0, 1_024), "after {before}");
+    assert_eq!(outcome.out[0] - n - 64 * missing, 53_376);
+    let over = same_append(&mut buffer, outcome.out[0], &batch_of(&[]), &[], 1, "one entry more");
+    assert_eq!(over.number, 12);
+}
+
+/// A list of a million ids to retire ends as soon as no live entry is left for them.
+#[test]
+fn a_million_ids_to_retire() {
+    let mut buffer = vec![0; 70_000];
+    let n = same_append(&mut buffer, 0, &batch_of(&vec![(7u8, 0u16, &b""[..]); 16]), &[], 1, "16 bodies").out[0];
+    let ids: Vec<u64> = (0..1_000_000).map(|id| id % 17).collect();
+    assert_eq!(same_append(&mut buffer, n, &batch_of(&[]), &ids, 1, "a million ids").number, 11);
+    let all: Vec<u64> = (0..16).rev().collect();
+    assert_eq!(same_append(&mut buffer, n, &batch_of(&[]), &all, 1, "all of them").number, 0);
+}

@@ -1,7 +1,7 @@
 -- What an append answers, by cases, and the number that a batch is refused with.
 -- Assumes nothing.
 use Prim.Native.Nat.{ℕ}
-use mathlib.Core.Path.{_≡_, refl}
+use mathlib.Core.Path.{_≡_}
 use mathlib.Core.Bool.{true, false, cond}
 use mathlib.Core.List.{List, [], _∷_}
 use Rattle.answers.specs.Answer.{Answer, Accepted, Refusal}

@@ -1,36 +1,35 @@
 -- What an append knows of the file when it writes: the bytes up to the start are the links that are kept, and their offsets stand in a list. With the
 -- bodies written behind them, all links of the new directory lie in the bytes up to the new manifest.
 -- Assumes nothing.
-use Prim.Native.Nat.{ℕ, _+_, _-_, _*_, _^_, _≤_, _<_}
+use Prim.Native.Nat.{ℕ, _+_, _-_, _^_, _≤_, _<_}
 use mathlib.Core.Path.{_≡_, refl, sym, ap, ap₂, subst, _∙_}
-use mathlib.Core.Bool.{Bool, true, false}
-use mathlib.Core.Option.{Option, none, some}
-use mathlib.Core.List.{List, [], _∷_, _++_, append-nil, append-assoc}
+use mathlib.Core.Bool.{Bool}
+use mathlib.Core.Option.{Option}
+use mathlib.Core.List.{List, [], _++_, append-nil, append-assoc}
 use native.Mathlib.Omega.{arith}
-use lib.ListN.{length, take, drop, length-append, length-take, length-map}
-use lib.Seq.{take-all, take-length, take-at, take-append-le, take-append-add, length-take-le}
-use Rattle.octets.specs.Over.{over, over-then, length-over}
+use lib.ListN.{length, take, drop, length-append, length-map}
+use lib.Seq.{take-all, take-at, length-take-le}
+use Rattle.octets.specs.Over.{over, over-then}
 use Rattle.limits.specs.Limits.{maxFile}
 use Rattle.le.specs.Le.{Bytes}
 use Rattle.chain.specs.Chain as C
 use Rattle.chain.specs.Chain.{All}
 use Rattle.chain.specs.Last as last
-use Rattle.chain.specs.Last.{Found, upTo, last-upTo}
+use Rattle.chain.specs.Last.{Found, last-upTo}
 use Rattle.segment.specs.Header.{Link, start, reader}
 use Rattle.segment.specs.Laws.{segment-format}
-use Rattle.segment.specs.Written.{segment}
 use Rattle.segment.specs.Chained.{chain, offsetsOf}
 use Rattle.chain_index.specs.Offsets.{offsets-append}
-use Rattle.manifest.specs.Payload.{manifestKind, confirmed, manifestPayload}
+use Rattle.manifest.specs.Payload.{confirmed, manifestPayload}
 use Rattle.manifest.specs.Opening.{opened}
 use Rattle.manifest_write.specs.At.{Inside, payloadAt}
 use Rattle.manifest_write.specs.Links.{Lying, lying-inside, payload-lying, chain-lying}
 use Rattle.batch.specs.Form.{Body}
-use Rattle.appending.specs.Append.{keptLinks, startOf, nextId, bodyLinks, bodyBytes, bodiesEnd, manifestAt, manifestId, newCount, newLinks}
+use Rattle.appending.specs.Append.{keptLinks, startOf, nextId, bodyLinks, bodyBytes, bodiesEnd, newLinks}
 use Rattle.appending.specs.Written.{BodyHeld, bodies-exact, bodies-length, bodyLinks-length}
 use Rattle.appending.specs.Opens.{kept}
 use Rattle.appending.specs.Buffer.{kept-is}
-use Rattle.append.specs.Late.{nextOf, bytesWith}
+use Rattle.append.specs.Late.{nextOf}
 
 -- g is the bytes up to the start
 pub record Base (g offsets : List ℕ) (begin kept-count : ℕ) (first : Bool) (last-id : ℕ) : Type 0 where

@@ -1,14 +1,14 @@
 -- What an append begins from: an empty file, or the file's manifest; and the states that its new directory gets.
 -- Assumes nothing.
 use Prim.Native.Nat.{ℕ, zero, suc, _+_, _-_, _≤_, _<_}
-use mathlib.Core.Path.{_≡_, refl, sym, ap, ap₂, subst, _∙_}
-use mathlib.Core.Bool.{Bool, true, false}
+use mathlib.Core.Path.{_≡_, refl, sym, ap, _∙_}
+use mathlib.Core.Bool.{true, false}
 use mathlib.Core.Option.{Option, none, some}
 use mathlib.Core.List.{List, [], _∷_, _++_, append-assoc}
 use native.Mathlib.Omega.{arith}
-use lib.ListN.{length, take, drop, replicate, length-append, length-take}
+use lib.ListN.{length, take, replicate, length-append}
 use lib.Seq.{take-take, take-append-add, length-take-le}
-use Rattle.limits.specs.Limits.{maxFile, maxEntries}
+use Rattle.limits.specs.Limits.{maxEntries}
 use Rattle.le.specs.Le.{Bytes}
 use Rattle.chain.specs.Last.{Found, upTo}
 use Rattle.segment.specs.Header.{Link, size}

@@ -1,11 +1,11 @@
 -- The ids and types of a directory's entries, as two lists: of links at some offsets of the file, and of the links themselves.
 -- Assumes nothing.
-use Prim.Native.Nat.{ℕ, suc, _+_, _≤_, _<_}
+use Prim.Native.Nat.{ℕ, _+_, _≤_, _<_}
 use mathlib.Core.Path.{_≡_, refl, sym, ap, ap₂, _∙_}
 use mathlib.Core.List.{List, [], _∷_, _++_, map, map-append}
 use native.Mathlib.Omega.{arith}
 use native.Mathlib.Numerals.{add-one}
-use lib.ListN.{length, take, drop, getD, set, length-map, length-set, length-drop}
+use lib.ListN.{length, take, drop, getD, set, length-map, length-set}
 use lib.Seq.{take-suc, take-length, length-take-le, getD-drop, drop-drop}
 use Rattle.octets.specs.Over.{over, over-none, over-front}
 use Rattle.le.specs.Le.{leAt, leOf}

@@ -2,14 +2,13 @@
 -- too large.
 -- Assumes nothing.
 use Prim.Native.Nat.{ℕ, zero, suc, _+_, _-_, _*_, _^_, _≤_, _<_}
-use mathlib.Core.Path.{_≡_, refl, sym, ap, subst, _∙_}
+use mathlib.Core.Path.{_≡_, sym, ap, subst, _∙_}
 use mathlib.Core.Bool.{Bool, true, _&&_}
 use mathlib.Core.Option.{Option}
-use mathlib.Core.List.{List, [], _∷_, _++_}
+use mathlib.Core.List.{List, _++_}
 use native.Mathlib.Omega.{arith}
-use lib.Dec.{eqb, leb}
+use lib.Dec.{leb}
 use lib.ListN.{length, take, drop, length-take}
-use lib.Seq.{length-take-le}
 use borrow.Author.Tests.{eqb-true}
 use Rattle.octets.specs.Zero.{allZero, and-split}
 use Rattle.octets.specs.Over.{over, length-over}
@@ -21,12 +20,12 @@ use Rattle.chain.specs.Last.{Found}
 use Rattle.segment.specs.Header.{Link}
 use Rattle.segment.specs.Written.{segment}
 use Rattle.segment.specs.Chained.{offsetsOf}
-use Rattle.manifest.specs.Payload.{manifestKind, manifestPayload}
+use Rattle.manifest.specs.Payload.{manifestPayload}
 use Rattle.manifest.specs.Opening.{opened}
 use Rattle.manifest_write.specs.At.{Inside, payloadAt}
 use Rattle.batch.specs.Form.{Body, lineSize, lineLength, lineHeld, linesHeld, bodyCount, bodiesAt, batchHeld, bodiesFrom, bodiesOf}
 use Rattle.batch.specs.Lines.{bodies-count, held-bounds}
-use Rattle.appending.specs.Append.{keptLinks, startOf, nextId, bodySize, bodyLinks, bodyBytes, bodiesEnd, manifestAt, manifestId, newCount, newLinks}
+use Rattle.appending.specs.Append.{startOf, nextId, bodyLinks, bodyBytes, bodiesEnd, manifestAt, manifestId, newCount, newLinks}
 use Rattle.appending.specs.Written.{bodies-held, bodies-length}
 use Rattle.append.specs.Late.{nextOf, bytesWith, count-number, id-number, at-number}
 use Rattle.append.specs.Base.{Base, new-inside, new-payload, buffer-front, all-written}

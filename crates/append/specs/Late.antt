@@ -1,8 +1,8 @@
 -- The rest of an append, behind the tests of the file, the batch and the ids to retire: its tests and what it writes, as definitions, and its ways out.
 -- Assumes nothing.
 use Prim.Native.Nat.{ℕ, _+_, _-_, _*_, _^_, _≤_, _<_}
-use mathlib.Core.Path.{_≡_, refl, sym, ap, _∙_}
-use mathlib.Core.Bool.{Bool, true, false, cond}
+use mathlib.Core.Path.{_≡_, sym, ap, _∙_}
+use mathlib.Core.Bool.{Bool, true, false}
 use mathlib.Core.Option.{Option}
 use mathlib.Core.List.{List, [], _∷_, _++_}
 use native.Mathlib.Omega.{arith}
@@ -22,7 +22,6 @@ use Rattle.manifest.specs.Sized.{recordBy}
 use Rattle.manifest.specs.Payload.{manifestKind, manifestPayload, payloadLength}
 use Rattle.batch.specs.Form.{Body}
 use Rattle.appending.specs.Append.{keptLinks, startOf, nextId, bodyBytes, bodiesEnd, manifestAt, manifestId, newCount, newEnd, newLinks, Check, checked}
-use Rattle.append.specs.declared.Appended.{Appended}
 use Rattle.append.specs.declared.Appended.the-variants.{At, Refused}
 use Rattle.append.specs.Answer.{appendedAnswer}
 

@@ -1,18 +1,16 @@
 -- The directory's states with some ids retired, by the lists that the code makes of the directory: the entries' ids, types and states.
 -- Assumes nothing.
 use Prim.Native.Nat.{ℕ, zero, suc, _+_, _-_, _≤_}
-use mathlib.Core.Path.{_≡_, refl, sym, ap, ap₂, subst, _∙_}
-use mathlib.Core.Bool.{Bool, true}
-use mathlib.Core.Option.{Option, none, some}
+use mathlib.Core.Path.{_≡_, sym, ap, ap₂, subst, _∙_}
+use mathlib.Core.Option.{some}
 use mathlib.Core.List.{List, [], _∷_, _++_, map}
 use native.Mathlib.Omega.{arith}
-use lib.ListN.{length, take, drop, replicate, length-map, length-replicate}
-use lib.Seq.{drop-at, length-take-le, drop-drop}
+use lib.ListN.{length, take, drop, replicate, length-map}
+use lib.Seq.{drop-at}
 use Rattle.octets.specs.Over.{over}
 use Rattle.chain.specs.Chain.{All}
-use Rattle.chain.specs.Last.{Found}
 use Rattle.segment.specs.Header.{Link}
-use Rattle.segment.specs.Chained.{chain, offsetsOf, Rising, chain-rising}
+use Rattle.segment.specs.Chained.{offsetsOf, Rising, chain-rising}
 use Rattle.manifest.specs.Sized.{length-statesBy}
 use Rattle.manifest.specs.Payload.{entrySize, statesIn}
 use Rattle.manifest.specs.Opening.{opened, states}
@@ -21,7 +19,6 @@ use Rattle.manifest_write.specs.Links.{Lying, chain-lying, lying-inside}
 use Rattle.opening.specs.Directory.{ManifestAt}
 use Rattle.appending.specs.Retire.{retireHeld, retired}
 use Rattle.appending.specs.Append.{oldLinks, oldStates}
-use Rattle.appending.specs.States.{retired-length}
 use Rattle.appending.specs.Opens.{rising-front}
 use Rattle.append_write.specs.Laid.{payload-front}
 use Rattle.retire.specs.Marks.{retireHeldBy, retiredBy, Rises, held-same, retired-same, rises-links}
@@ -87,9 +84,10 @@ module _ (f : List ℕ) (manifest count : ℕ) (m : ManifestAt f manifest count)
       -- what the marking asks for
       pub lists-even : ((length (take count ks) ≡ length (take count ids)) × (length (take count ss) ≡ length (take count ids))) × Rises 0 (take count ids)
       lists-even =
-          let n : length (take count ids) ≡ count = ap length ids-front ∙ length-map b (λ l. l .id) ∙ m .count-is in
-          ((ap length kinds-front ∙ length-map b (λ l. l .kind) ∙ m .count-is ∙ sym n, ap length states-front ∙ states-long ∙ sym n),
-          subst (Rises 0) (sym ids-front) (rises-links b 0 (rising-front b (m .found .link ∷ m .stands .rest) 0 (subst (Rising 0) (m .stands .split) (chain-rising f)))))
+          let n : length (take count ids) ≡ count = ap length ids-front ∙ length-map b (λ l. l .id) ∙ m .count-is in (
+            (ap length kinds-front ∙ length-map b (λ l. l .kind) ∙ m .count-is ∙ sym n, ap length states-front ∙ states-long ∙ sym n),
+            subst (Rises 0) (sym ids-front) (rises-links b 0 (rising-front b (m .found .link ∷ m .stands .rest) 0 (subst (Rising 0) (m .stands .split) (chain-rising f)))),
+          )
 
       -- what it answers
       pub marks-held : (want : List ℕ) → retireHeldBy (take count ids) (take count ks) (take count ss) want ≡ retireHeld (oldLinks (opened f)) (oldStates (opened f)) want

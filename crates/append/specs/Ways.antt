@@ -1,15 +1,13 @@
 -- The ways out of appending: the tests in order, each with what is answered and left.
 -- Assumes nothing.
-use Prim.Native.Nat.{ℕ, zero, suc, _+_, _-_, _^_, _≤_, _<_}
-use mathlib.Core.Path.{_≡_, refl, sym, ap, ap₂, subst, _∙_}
-use mathlib.Core.Bool.{Bool, true, false, cond, not, _&&_}
-use mathlib.Core.Option.{Option, none, some}
-use mathlib.Core.List.{List, [], _∷_, _++_}
+use Prim.Native.Nat.{ℕ, zero, suc, _-_, _≤_, _<_}
+use mathlib.Core.Path.{_≡_, refl, sym, ap, _∙_}
+use mathlib.Core.Bool.{Bool, true, false, cond}
+use mathlib.Core.Option.{Option, none}
+use mathlib.Core.List.{List, []}
 use native.Mathlib.Omega.{arith}
-use lib.Dec.{ltb}
-use lib.ListN.{length, take, drop, replicate, length-take}
-use lib.Seq.{take-take, length-take-le}
-use borrow.Author.Tests.{lt-ltb, le-ltb, ltb-false, ne-eqb}
+use lib.ListN.{length, take}
+use borrow.Author.Tests.{lt-ltb, le-ltb, ltb-false}
 use Rattle.limits.specs.Limits.{maxFile, maxEntries}
 use Rattle.answers.specs.Answer.{Answer, Accepted, Refusal}
 use Rattle.octets.specs.Over.{over}
@@ -18,10 +16,10 @@ use Rattle.segment.specs.Header.{Link}
 use Rattle.manifest.specs.Opening.{opened}
 use Rattle.batch.specs.Form.{batchHeld, bodiesOf}
 use Rattle.appending.specs.Retire.{retireHeld}
-use Rattle.appending.specs.Append.{startOf, oldLinks, oldStates, manifestAt, manifestId, newCount, newEnd, newStates, newPayload, newBytes, vectorsBad, Check, checked, isNone, appendChecks, answerOn, appendAnswer, bufferOn, appendBuffer, Appends}
+use Rattle.appending.specs.Append.{startOf, oldLinks, oldStates, newCount, newStates, newPayload, newBytes, vectorsBad, checked, isNone, appendChecks, answerOn, appendAnswer, bufferOn, appendBuffer, Appends}
 use Rattle.appending.specs.Accepts.{Passed, passed, empty-passes}
 use Rattle.append.specs.declared.Appended.{Appended}
-use Rattle.append.specs.declared.Appended.the-variants.{At, Refused}
+use Rattle.append.specs.declared.Appended.the-variants.{Refused}
 use Rattle.append.specs.Answer.{appendedAnswer, batchNumber}
 use Rattle.append.specs.Late.{lateChecks, lateAnswer, bytesWith, bufferWith, lateBuffer}
 

@@ -22,11 +22,7 @@ use opening::Opened;
 
 // What an append answers: the new end, the manifest's id and the number of its entries; or the number of a refusal.
 pub enum Appended {
-    At {
-        end: usize,
-        id: u64,
-        count: usize,
-    },
+    At { end: usize, id: u64, count: usize },
     Refused(u32),
 }
 
@@ -77,7 +73,12 @@ fn retire_states(
     let mut entry_ids = [0u64; 1024];
     let mut kinds = [0u8; 1024];
     read_entries(file, &offsets[..count], &mut entry_ids, &mut kinds);
-    retire::mark(&entry_ids[..count], &kinds[..count], &mut states[..count], ids)
+    retire::mark(
+        &entry_ids[..count],
+        &kinds[..count],
+        &mut states[..count],
+        ids,
+    )
 }
 
 // Whether the new manifest's id would pass the largest number: ids go on from `last`, or from 0 in an empty file.
@@ -189,7 +190,18 @@ pub fn append(buf: &mut [u8], n: u64, batch: &[u8], ids: &[u64], timestamp: u64)
             if !retire_states(&buf[..size], &offsets, offset, count, ids, &mut states) {
                 return Appended::Refused(11);
             }
-            finish(buf, batch, end, count + 1, false, id, timestamp, &mut offsets, &states)
+            let start = end;
+            finish(
+                buf,
+                batch,
+                start,
+                count + 1,
+                false,
+                id,
+                timestamp,
+                &mut offsets,
+                &states,
+            )
         }
     }
 }

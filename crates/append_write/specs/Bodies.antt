@@ -1,12 +1,12 @@
 -- One body more: what the bodies up to an index are as links, as bytes and by their end; and where the loops over them stand.
 -- Assumes nothing.
 use Prim.Native.Nat.{ℕ, suc, _+_, _-_, _*_, _≤_, _<_}
-use mathlib.Core.Path.{_≡_, refl, sym, ap, ap₂, subst, _∙_}
-use mathlib.Core.List.{List, [], _∷_, _++_, append-assoc, append-nil, map, map-append}
+use mathlib.Core.Path.{_≡_, refl, sym, ap, _∙_}
+use mathlib.Core.List.{List, [], _∷_, _++_, append-assoc, append-nil}
 use native.Mathlib.Omega.{arith}
 use native.Mathlib.Nat.{add-zero}
 use native.Mathlib.Numerals.{add-one}
-use lib.ListN.{length, take, drop, getD, set, length-append, length-map, length-set, take-append-drop}
+use lib.ListN.{length, take, drop, getD, set, length-map, length-set, take-append-drop}
 use lib.Seq.{take-suc, take-length, length-take-le}
 use Rattle.octets.specs.Over.{over, over-none, over-then, over-turn, length-over}
 use Rattle.octets.specs.Round.{round64}

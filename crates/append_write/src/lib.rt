@@ -55,7 +55,14 @@ pub fn put_bodies(
         let from = le::u32_at(batch, line + 4) as usize;
         let to = from + le::u32_at(batch, line + 8) as usize;
         offsets[kept + j] = at as u64;
-        at += segment_write::put_segment(&mut buf[at..], kind, flags, first_id + j as u64, timestamp, &batch[from..to]);
+        at += segment_write::put_segment(
+            &mut buf[at..],
+            kind,
+            flags,
+            first_id + j as u64,
+            timestamp,
+            &batch[from..to],
+        );
         j += 1;
     }
 }

@@ -1,9 +1,9 @@
 -- `append::retire_states` meets its contract, by the lists that it makes of the directory.
 -- Assumes nothing.
 use Prim.Native.Nat.{ℕ, _+_, _-_, _≤_}
-use mathlib.Core.Path.{_≡_, refl, sym, ap, _∙_}
+use mathlib.Core.Path.{_≡_, sym, ap, _∙_}
 use native.Mathlib.Omega.{arith}
-use lib.ListN.{length, take, drop, replicate, length-drop, length-replicate}
+use lib.ListN.{length, take, drop, length-drop, length-replicate}
 use lib.Seq.{length-take-le}
 use Rattle.opening.specs.Directory.{manifest-part, manifest-room, before-offsets}
 use Rattle.append.specs.Retiring.{entries-inside, lists-even, marks-held, marks-laid}

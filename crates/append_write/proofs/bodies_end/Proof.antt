@@ -1,7 +1,7 @@
 -- `append_write::bodies_end` meets its contract, by where the loop over the bodies stands.
 -- Assumes nothing.
-use Prim.Native.Nat.{ℕ, _-_}
-use mathlib.Core.Path.{_≡_, sym, ap, _∙_}
+use Prim.Native.Nat.{_-_}
+use mathlib.Core.Path.{sym, ap, _∙_}
 use native.Mathlib.Omega.{arith}
 use Rattle.octets.specs.Round.{round64, round64-lt}
 use Rattle.batch.specs.Form.{bodiesOf}

@@ -1,11 +1,11 @@
 -- `append_write::put_bodies` meets its contract, by where the loop over the bodies stands.
 -- Assumes nothing.
-use Prim.Native.Nat.{ℕ, _+_, _-_}
+use Prim.Native.Nat.{_+_, _-_}
 use mathlib.Core.Path.{_≡_, refl, ap, _∙_}
 use native.Mathlib.Omega.{arith}
 use lib.ListN.{length, take, drop, length-take, length-drop}
 use Rattle.octets.specs.Parts.{back}
-use Rattle.octets.specs.Round.{round64, round64-lt}
+use Rattle.octets.specs.Round.{round64}
 use Rattle.batch.specs.Form.{bodiesOf}
 use Rattle.batch.specs.Lines.{noBody, bodies-count, count-is, held-bounds, body-at}
 use Rattle.append_write.specs.Bodies.{BodiesPut, put-first, put-room, put-next, put-last}
