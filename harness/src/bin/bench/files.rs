@@ -66,6 +66,27 @@ fn walk_line(name: &str, file: &[u8]) {
     );
 }
 
+/// An entry of the directory, the opening included.
+fn entry_line(name: &str, file: &[u8], index: u64) {
+    let call = |calls: &dyn Calls| {
+        let mut out = [0; 8];
+        assert_eq!(calls.entry(black_box(file), index, &mut out), 0);
+        black_box(out);
+    };
+    crate::line(name, Unit::Ns(1), || call(&Library), || call(&Reference));
+}
+
+/// The place of a segment's payload, the opening and the payload's hash included.
+#[cfg(feature = "reading")]
+fn payload_line(name: &str, file: &[u8], id: u64) {
+    let call = |calls: &dyn Calls| {
+        let mut out = [0; 2];
+        assert_eq!(calls.payload(black_box(file), id, &mut out), 0);
+        black_box(out);
+    };
+    line(name, Unit::Ns(1), || call(&Library), || call(&Reference));
+}
+
 fn opening() {
     let clean = thousand(limits::FILE);
     open_line("open_16MiB_clean", &clean, 0, 1);
@@ -74,6 +95,9 @@ fn opening() {
     let noise = Rng::new(6).bytes(limits::FILE - torn.len());
     torn.extend_from_slice(&noise);
     open_line("open_16MiB_torn_1MiB", &torn, 0, 1);
+    entry_line("entry_16MiB_of_1000", &clean, 500);
+    #[cfg(feature = "reading")]
+    payload_line("payload_16MiB_of_1000", &clean, 500);
     walk_line("open_16MiB_torn_1MiB_against_walk", &torn);
 
     // Candidates behind a small file that has 1,000 entries. Linear work shows as the
