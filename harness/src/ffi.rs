@@ -1,98 +1,14 @@
-//! The static library's exported calls: declarations, and safe wrappers that are an
-//! implementation of `Calls`. A slice is a pointer, then its length; `out` is a
-//! pointer to a fixed array and stands last; the return value is 0 or the refusal.
+//! The static library's exported calls, through the binding's declarations: safe wrappers
+//! that are an implementation of `Calls`. They keep the C shape, number and `out`, because
+//! what a refusal leaves in `out` is compared too; `tests/binding.rs` compares the binding's
+//! own wrappers.
 //!
-//! The calls of a layer stand behind that layer's feature. When the library gets a
-//! layer, its feature is turned on in Cargo.toml and nothing here changes.
+//! The calls of a layer stand behind that layer's feature.
 
 use crate::calls::{Calls, Layer};
 #[cfg(feature = "vec")]
 use crate::calls::VecInput;
-
-extern "C" {
-    fn rvf_crc32c(data: *const u8, data_len: usize) -> u32;
-    fn rvf_varint_read(data: *const u8, data_len: usize, out: *mut [u64; 2]) -> u32;
-    fn rvf_varint_write(buffer: *mut u8, buffer_len: usize, value: u64, out: *mut [u64; 1]) -> u32;
-    fn rvf_idmap_read(
-        data: *const u8,
-        data_len: usize,
-        count: u64,
-        ids: *mut u64,
-        ids_len: usize,
-        out: *mut [u64; 1],
-    ) -> u32;
-    fn rvf_idmap_write(
-        buffer: *mut u8,
-        buffer_len: usize,
-        ids: *const u64,
-        ids_len: usize,
-        encoding: u64,
-        interval: u64,
-        out: *mut [u64; 1],
-    ) -> u32;
-}
-
-#[cfg(feature = "vec")]
-extern "C" {
-    fn rvf_vec_check(payload: *const u8, payload_len: usize) -> u32;
-    fn rvf_vec_read(
-        payload: *const u8,
-        payload_len: usize,
-        id: u64,
-        buffer: *mut u8,
-        buffer_len: usize,
-        out: *mut [u64; 3],
-    ) -> u32;
-    fn rvf_vec_write(
-        buffer: *mut u8,
-        buffer_len: usize,
-        ids: *const u64,
-        ids_len: usize,
-        columns: *const u8,
-        columns_len: usize,
-        dim: u64,
-        dtype: u64,
-        tier: u64,
-        encoding: u64,
-        interval: u64,
-        out: *mut [u64; 1],
-    ) -> u32;
-}
-
-#[cfg(feature = "open")]
-extern "C" {
-    fn rvf_open(file: *const u8, file_len: usize, out: *mut [u64; 5]) -> u32;
-    fn rvf_entry(file: *const u8, file_len: usize, index: u64, out: *mut [u64; 8]) -> u32;
-}
-
-#[cfg(feature = "reading")]
-extern "C" {
-    fn rvf_payload(file: *const u8, file_len: usize, id: u64, out: *mut [u64; 2]) -> u32;
-    fn rvf_vector(
-        file: *const u8,
-        file_len: usize,
-        id: u64,
-        buffer: *mut u8,
-        buffer_len: usize,
-        out: *mut [u64; 3],
-    ) -> u32;
-    fn rvf_component(file: *const u8, file_len: usize, id: u64, index: u64, out: *mut [u64; 2]) -> u32;
-}
-
-#[cfg(feature = "append")]
-extern "C" {
-    fn rvf_append(
-        buffer: *mut u8,
-        buffer_len: usize,
-        n: u64,
-        batch: *const u8,
-        batch_len: usize,
-        retire: *const u64,
-        retire_len: usize,
-        timestamp: u64,
-        out: *mut [u64; 3],
-    ) -> u32;
-}
+use rvf::sys::*;
 
 /// The linked library. Each wrapper hands over slices that live through the call, and
 /// the library keeps no pointer; that is all that makes the calls safe.
