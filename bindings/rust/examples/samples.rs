@@ -1,0 +1,73 @@
+//! Writes the sample files of the repository into a folder:
+//!
+//!     cargo run --offline --manifest-path bindings/rust/Cargo.toml --example samples -- samples
+//!
+//! They are made by the library alone; damage is what a drop-out or a bad disk would do.
+
+use rvf::{Body, Dtype, Encoding, Refusal, Vectors};
+use std::path::Path;
+
+/// A payload of positions x, y, z as f32, one for each id.
+fn positions(ids: &[u64], at: f32) -> Result<Vec<u8>, Refusal> {
+    let value = |axis: usize, place: usize| at + 100.0 * axis as f32 + 0.25 * place as f32;
+    let columns: Vec<u8> = (0..3).flat_map(|axis| (0..ids.len()).flat_map(move |place| value(axis, place).to_le_bytes())).collect();
+    let encoding = Encoding::Delta { interval: 0 };
+    rvf::vectors(&Vectors { ids, columns: &columns, dim: 3, dtype: Dtype::F32, tier: 0, encoding })
+}
+
+/// A file with a batch appended.
+fn append(file: &[u8], bodies: &[Body], retire: &[u64], time: u64) -> Result<Vec<u8>, Refusal> {
+    let mut buffer = file.to_vec();
+    buffer.resize(rvf::FILE_LIMIT, 0);
+    let end = rvf::append(&mut buffer, file.len(), &rvf::batch(bodies), retire, time)?.end;
+    buffer.truncate(end as usize);
+    Ok(buffer)
+}
+
+fn vec(bytes: &[u8]) -> Body<'_> {
+    Body { kind: rvf::VEC, flags: 0, bytes }
+}
+
+fn note(bytes: &[u8]) -> Body<'_> {
+    Body { kind: 7, flags: 0, bytes }
+}
+
+/// Three batches: two objects, then both of them anew with a note, then a third object
+/// while the first batch's segment (id 0) is retired.
+fn clean() -> Result<Vec<u8>, Refusal> {
+    let file = append(&[], &[vec(&positions(&[7, 21], 1.0)?)], &[], 1_000)?;
+    let file = append(&file, &[vec(&positions(&[7, 21], 2.0)?), note(b"second contact")], &[], 2_000)?;
+    append(&file, &[vec(&positions(&[30], 3.0)?)], &[0], 3_000)
+}
+
+/// The clean file, and a fourth batch that a drop-out cut in the middle of its body.
+fn torn(clean: &[u8]) -> Result<Vec<u8>, Refusal> {
+    let mut file = append(clean, &[vec(&positions(&[7, 21, 30, 31], 4.0)?)], &[], 4_000)?;
+    file.truncate(clean.len() + 150);
+    Ok(file)
+}
+
+/// The clean file with one bit of the newest vectors changed.
+fn damaged(clean: &[u8]) -> Result<Vec<u8>, Refusal> {
+    let newest = rvf::entries(clean)?.into_iter().filter(|entry| entry.kind == rvf::VEC).last();
+    let offset = newest.map_or(0, |entry| entry.offset) as usize;
+    let mut file = clean.to_vec();
+    // The segment's header takes 64 bytes, the payload's directory 64 more; then the columns.
+    file[offset + 64 + 64] ^= 1;
+    Ok(file)
+}
+
+/// A file whose one body is the whole clean file, its manifests included.
+fn nested(clean: &[u8]) -> Result<Vec<u8>, Refusal> {
+    append(&[], &[note(clean)], &[], 5_000)
+}
+
+fn main() -> Result<(), Box<dyn std::error::Error>> {
+    let folder = std::env::args().nth(1).ok_or("name the folder to write to")?;
+    let clean = clean()?;
+    let files = [("torn.rvf", torn(&clean)?), ("damaged.rvf", damaged(&clean)?), ("nested.rvf", nested(&clean)?), ("clean.rvf", clean)];
+    for (name, bytes) in files {
+        std::fs::write(Path::new(&folder).join(name), bytes)?;
+    }
+    Ok(())
+}

@@ -1,0 +1,100 @@
+//! The sample files: the library makes the same bytes again, and each shows what it is for.
+
+use rvf::Refusal;
+use rvf_harness::calls::{Calls, Reference};
+use std::path::{Path, PathBuf};
+use std::process::Command;
+
+fn root() -> PathBuf {
+    Path::new(env!("CARGO_MANIFEST_DIR")).join("..")
+}
+
+fn sample(name: &str) -> Vec<u8> {
+    std::fs::read(root().join("samples").join(name)).expect("the sample is in the repository")
+}
+
+#[test]
+fn samples_are_what_the_library_makes() {
+    let made = Path::new(env!("CARGO_TARGET_TMPDIR")).join("samples");
+    std::fs::create_dir_all(&made).expect("a folder to write to");
+    let ran = Command::new(env!("CARGO"))
+        .args(["run", "--quiet", "--offline", "--example", "samples", "--manifest-path"])
+        .arg(root().join("bindings/rust/Cargo.toml"))
+        .arg("--target-dir")
+        .arg(Path::new(env!("CARGO_TARGET_TMPDIR")).join("binding-samples"))
+        .arg("--")
+        .arg(&made)
+        .output()
+        .expect("cargo starts");
+    assert!(ran.status.success(), "{}", String::from_utf8_lossy(&ran.stderr));
+    for name in ["clean.rvf", "torn.rvf", "damaged.rvf", "nested.rvf"] {
+        assert!(std::fs::read(made.join(name)).expect("it was made") == sample(name), "{name} is made otherwise");
+    }
+}
+
+/// The id, type and state of each entry, and the vector with an id as numbers.
+fn directory(file: &[u8]) -> Vec<(u64, u8, bool)> {
+    rvf::entries(file).expect("the file opens").iter().map(|entry| (entry.id, entry.kind, entry.retired)).collect()
+}
+
+fn position(file: &[u8], id: u64) -> Result<String, Refusal> {
+    let vector = rvf::vector(file, id)?;
+    Ok(vector.components().map(|component| component.to_string()).collect::<Vec<_>>().join(" "))
+}
+
+#[test]
+fn clean_has_three_batches_and_a_retired_segment() {
+    let file = sample("clean.rvf");
+    let wanted = [(0, 1, true), (1, 5, false), (2, 1, false), (3, 7, false), (4, 5, false), (5, 1, false)];
+    assert_eq!(directory(&file), wanted);
+    assert_eq!(rvf::open(&file).map(|manifest| (manifest.id, manifest.end)), Ok((6, file.len() as u64)));
+    assert_eq!(position(&file, 21), Ok("2.25 102.25 202.25".to_string()));
+    assert_eq!(position(&file, 30), Ok("3 103 203".to_string()));
+    assert_eq!(rvf::payload(&file, 0), Err(Refusal::NotLive));
+    assert_eq!(rvf::payload(&file, 3), Ok(&b"second contact"[..]));
+}
+
+#[test]
+fn torn_answers_as_before_the_batch_that_was_cut() {
+    let (clean, torn) = (sample("clean.rvf"), sample("torn.rvf"));
+    assert!(torn.len() > clean.len() && torn.starts_with(&clean));
+    assert_eq!(directory(&torn), directory(&clean));
+    for id in [7, 21, 30, 31] {
+        assert_eq!(position(&torn, id), position(&clean, id));
+    }
+    assert_eq!(rvf::open(&torn).map(|manifest| manifest.end), Ok(clean.len() as u64));
+}
+
+#[test]
+fn damaged_refuses_and_does_not_answer_an_older_position() {
+    let (clean, damaged) = (sample("clean.rvf"), sample("damaged.rvf"));
+    assert_eq!(clean.iter().zip(&damaged).filter(|(one, other)| one != other).count(), 1);
+    // Every search begins with the newest segment of vectors, which is the damaged one.
+    for id in [7, 21, 30] {
+        assert_eq!(position(&damaged, id), Err(Refusal::ContentHash));
+    }
+    assert_eq!(directory(&damaged), directory(&clean));
+}
+
+#[test]
+fn nested_answers_from_the_outer_file_alone() {
+    let (clean, nested) = (sample("clean.rvf"), sample("nested.rvf"));
+    assert_eq!(rvf::payload(&nested, 0), Ok(&clean[..]));
+    assert_eq!(directory(&nested), [(0, 7, false)]);
+    assert_eq!(position(&nested, 7), Err(Refusal::NoVector));
+    // Cut anywhere before its end, the inner manifests are not taken for the file's.
+    for end in [nested.len() - 1, 64 + clean.len(), 64 + clean.len() / 2] {
+        assert_eq!(rvf::open(&nested[..end]).map_err(Refusal::from).err(), Some(Refusal::NoManifest));
+    }
+}
+
+/// The reference opens them alike.
+#[test]
+fn samples_agree_with_the_reference() {
+    for name in ["clean.rvf", "torn.rvf", "damaged.rvf", "nested.rvf"] {
+        let file = sample(name);
+        let mut out = [0; 5];
+        assert_eq!(Reference.open(&file, &mut out), 0);
+        assert_eq!(rvf::open(&file).map(|m| [m.offset, m.end, m.id, m.count, m.tried]), Ok(out), "{name}");
+    }
+}
