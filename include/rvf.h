@@ -93,6 +93,11 @@ uint32_t rvf_component(const uint8_t *file, size_t len, uint64_t id, uint64_t in
 uint32_t rvf_append(uint8_t *buffer, size_t len, uint64_t n, const uint8_t *batch, size_t batch_len, const uint64_t *retire,
                     size_t retire_len, uint64_t timestamp, uint64_t out[3]);
 
+/* What the lister prints about a file of at most 65,536 bytes, as ASCII at the front of the buffer: a heading, a line for each
+ * entry of the directory, the manifest's line, its end and the boundaries tried; or the line `refused n`, 1 for a longer file and
+ * 2 where there is no manifest. out: the text's length. Refuses 9; 102,400 bytes are room for every list. */
+uint32_t rvf_list(const uint8_t *file, size_t len, uint8_t *buffer, size_t buffer_len, uint64_t out[1]);
+
 #ifdef __cplusplus
 }
 #endif

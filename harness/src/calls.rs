@@ -2,7 +2,7 @@
 //! answer is a number, 0 or the refusal, and values go to `out`. The library and the
 //! reference both have this shape, so every comparison is written once.
 
-use crate::reference::{append, crc, idmap, manifest, refusal, store, varint, vecseg};
+use crate::reference::{append, crc, idmap, lister, manifest, refusal, store, varint, vecseg};
 
 /// The layers in the order in which the library gets them.
 #[derive(Clone, Copy, Debug, PartialEq, Eq, PartialOrd, Ord)]
@@ -16,6 +16,8 @@ pub enum Layer {
     /// Payload, vector and component by id.
     Reading,
     Append,
+    /// The lister's text.
+    List,
 }
 
 /// What a call that the implementation lacks would answer; no comparison makes it.
@@ -73,6 +75,9 @@ pub trait Calls {
         absent()
     }
     fn append(&self, buffer: &mut [u8], n: u64, batch: &[u8], retire: &[u64], time: u64, out: &mut [u64; 3]) -> u32 {
+        absent()
+    }
+    fn list(&self, file: &[u8], buffer: &mut [u8], out: &mut [u64; 1]) -> u32 {
         absent()
     }
 }
@@ -177,6 +182,12 @@ impl Calls for Reference {
     fn append(&self, buffer: &mut [u8], n: u64, batch: &[u8], retire: &[u64], time: u64, out: &mut [u64; 3]) -> u32 {
         let answer = append::append(buffer, n, batch, retire, time);
         put(answer.map(|(end, id, count)| [end as u64, id, count as u64]), out)
+    }
+
+    fn list(&self, file: &[u8], buffer: &mut [u8], out: &mut [u64; 1]) -> u32 {
+        let text = lister::list(file);
+        let front = buffer.get_mut(..text.len()).ok_or(refusal::NO_ROOM);
+        put(front.map(|front| front.copy_from_slice(text.as_bytes())).map(|()| [text.len() as u64]), out)
     }
 }
 

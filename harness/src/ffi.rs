@@ -26,6 +26,7 @@ impl Calls for Library {
             Layer::Open => cfg!(feature = "open"),
             Layer::Reading => cfg!(feature = "reading"),
             Layer::Append => cfg!(feature = "append"),
+            Layer::List => cfg!(feature = "list"),
         }
     }
 
@@ -116,5 +117,10 @@ impl Calls for Library {
         unsafe {
             rvf_append(at, room, n, batch.as_ptr(), batch.len(), retire.as_ptr(), retire.len(), time, out)
         }
+    }
+
+    #[cfg(feature = "list")]
+    fn list(&self, file: &[u8], buffer: &mut [u8], out: &mut [u64; 1]) -> u32 {
+        unsafe { rvf_list(file.as_ptr(), file.len(), buffer.as_mut_ptr(), buffer.len(), out) }
     }
 }

@@ -137,6 +137,10 @@ pub fn component(calls: &dyn Calls, file: &[u8], id: u64, index: u64) -> Outcome
     reading(|_, _| true, |out| calls.component(file, id, index, out))
 }
 
+pub fn list(calls: &dyn Calls, file: &[u8], room: usize) -> Outcome<1> {
+    writing(room, |out| out[0], |buffer, out| calls.list(file, buffer, out))
+}
+
 /// Appends in place to `buffer`. A refusal must leave it as it was; what an accepted
 /// call may change is between the old file's manifest end (`start`) and the new end.
 pub fn append(

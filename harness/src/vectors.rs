@@ -3,7 +3,7 @@
 //! byte string or list.
 
 use crate::calls::{Calls, Layer, VecInput};
-use crate::reference::{lister, manifest};
+use crate::reference::{limits, manifest};
 use crate::runner::{self, Outcome};
 use std::collections::{BTreeMap, HashMap};
 
@@ -18,9 +18,8 @@ pub struct Summary {
     pub differences: Vec<String>,
 }
 
-/// Runs every line of a vector file against an implementation. The lister's text has
-/// no exported call, so it is compared where `lister` is true (the reference).
-pub fn run(text: &str, calls: &dyn Calls, lister: bool) -> Summary {
+/// Runs every line of a vector file against an implementation.
+pub fn run(text: &str, calls: &dyn Calls) -> Summary {
     let mut summary = Summary::default();
     let mut files: HashMap<&str, Vec<u8>> = HashMap::new();
     for (index, line) in text.lines().enumerate() {
@@ -30,7 +29,7 @@ pub fn run(text: &str, calls: &dyn Calls, lister: bool) -> Summary {
             files.insert(words[1], bytes(words[2]));
             continue;
         }
-        match answer(&words, &files, calls, lister) {
+        match answer(&words, &files, calls) {
             None => summary.skipped += 1,
             Some(given) => {
                 *summary.run.entry(words[0].to_string()).or_default() += 1;
@@ -45,25 +44,23 @@ pub fn run(text: &str, calls: &dyn Calls, lister: bool) -> Summary {
     summary
 }
 
-/// The layer whose call a kind of line makes; `None` for the lister's text.
-pub fn layer(kind: &str) -> Option<Layer> {
+/// The layer whose call a kind of line makes.
+pub fn layer(kind: &str) -> Layer {
     match kind {
-        "idmap_read" | "idmap_write" => Some(Layer::Leaves),
-        "vec_check" | "vec_write" => Some(Layer::Vec),
-        "open" | "entry" => Some(Layer::Open),
-        "payload" | "vector" | "component" => Some(Layer::Reading),
-        "append" => Some(Layer::Append),
-        "list" => None,
+        "idmap_read" | "idmap_write" => Layer::Leaves,
+        "vec_check" | "vec_write" => Layer::Vec,
+        "open" | "entry" => Layer::Open,
+        "payload" | "vector" | "component" => Layer::Reading,
+        "append" => Layer::Append,
+        "list" => Layer::List,
         other => panic!("a line of unknown kind: {other}"),
     }
 }
 
 /// The answer to a line, in the file's own words; `None` where the call is absent.
-fn answer(words: &[&str], files: &HashMap<&str, Vec<u8>>, calls: &dyn Calls, lister: bool) -> Option<String> {
-    match layer(words[0]) {
-        None => return lister.then(|| hex(lister::list(&files[words[1]]).as_bytes())),
-        Some(layer) if !calls.has(layer) => return None,
-        Some(_) => (),
+fn answer(words: &[&str], files: &HashMap<&str, Vec<u8>>, calls: &dyn Calls) -> Option<String> {
+    if !calls.has(layer(words[0])) {
+        return None;
     }
     let n = |at: usize| number(words[at]);
     let file = || &files[words[1]];
@@ -105,6 +102,11 @@ fn answer(words: &[&str], files: &HashMap<&str, Vec<u8>>, calls: &dyn Calls, lis
             format!("{} {}", spaced(&out[..2]), hex(written))
         }),
         "component" => shown(&runner::component(calls, file(), n(2), n(3)), |out, _| spaced(out)),
+        // The line has the text alone; with this room there is no refusal.
+        "list" => {
+            let outcome = runner::list(calls, file(), limits::LIST_ROOM);
+            outcome.fault.map_or_else(|| hex(&outcome.written), |fault| format!("fault: {fault}"))
+        }
         _ => {
             let mut buffer = file().clone();
             let start = start_of(&buffer, n(2));
@@ -178,7 +180,7 @@ mod tests {
     #[test]
     fn a_wrong_answer_is_a_difference() {
         let text = "idmap_write 9 1 0 0 = 9\nidmap_write 0 1 0 1 = 9\nvec_check 00 = 5\n";
-        let summary = run(text, &Reference, true);
+        let summary = run(text, &Reference);
         assert_eq!((summary.differences.len(), summary.skipped), (1, 0));
         assert!(summary.differences[0].contains("given  14"));
     }

@@ -4,9 +4,9 @@
 use rvf::{Body, Component, Dtype, Encoding, Refusal, Vectors};
 use rvf_harness::calls::{Calls, Reference, VecInput};
 use rvf_harness::gen::batches::{segment_ids, vector_file, vector_ids};
-use rvf_harness::gen::files;
-use rvf_harness::gen::Rng;
+use rvf_harness::gen::{files, maps, payloads, Rng};
 use rvf_harness::reference::refusal::NO_ENTRY;
+use rvf_harness::reference::{idmap, varint, vecseg};
 
 /// What the reference answered, in the binding's shape.
 fn answer<T>(number: u32, value: impl FnOnce() -> T) -> Result<T, Refusal> {
@@ -120,6 +120,85 @@ fn binding_agrees_with_the_reference() {
     assert!([0, 2, 5, 9, 11].into_iter().all(|number| appends[number] > 20), "{appends:?}");
 }
 
+/// Payloads by themselves: checked, and vectors out of them.
+#[test]
+fn payloads_agree_with_the_reference() {
+    let mut rng = Rng::new(802);
+    let mut seen = [0; 9];
+    for _ in 0..6_000 {
+        let payload = payloads::payload(&mut rng);
+        let number = vecseg::check(&payload).err().unwrap_or(0);
+        assert_eq!(rvf::check_vectors(&payload), answer(number, || ()));
+        for id in vector_ids(&mut rng, 3) {
+            let (mut buffer, mut out) = ([0; rvf::VECTOR_LIMIT], [0; 3]);
+            let number = Reference.vec_read(&payload, id, &mut buffer, &mut out);
+            let vector = rvf::vector_of(&payload, id);
+            let wanted = answer(number, || (out[1], buffer[..out[2] as usize].to_vec()));
+            assert_eq!(vector.map(|vector| (vector.dtype.number(), vector.bytes)), wanted);
+            // Into a buffer that is sometimes too short, and keeps what lies behind.
+            let (mut ours, mut theirs) = ([0xA5; 12], [0xA5; 12]);
+            let short = Reference.vec_read(&payload, id, &mut theirs, &mut out);
+            let shape = rvf::vector_of_into(&payload, id, &mut ours);
+            assert_eq!(shape.map(|s| [s.dim as u64, s.dtype.number(), s.length as u64]), answer(short, || out));
+            assert_eq!(ours, theirs);
+            seen[number as usize] += 1;
+        }
+    }
+    assert!([0, 5, 6, 7, 8].into_iter().all(|number| seen[number] > 50), "{seen:?}");
+}
+
+/// Id maps, right and broken, read; ids that rise or do not, written.
+#[test]
+fn maps_agree_with_the_reference() {
+    let mut rng = Rng::new(803);
+    for _ in 0..20_000 {
+        let case = maps::case(&mut rng);
+        let mut ids = vec![0; rvf::IDS_LIMIT];
+        let read = idmap::read(&case.data, case.count, &mut ids);
+        let wanted = answer(read.err().unwrap_or(0), || (ids[..case.count as usize].to_vec(), read.unwrap_or(0)));
+        assert_eq!(rvf::read_ids(&case.data, case.count), wanted);
+    }
+    for count in [0, 4_097, u64::MAX] {
+        assert_eq!(rvf::read_ids(&[0; 40_000], count), Err(Refusal::Layout));
+    }
+    for length in [0, 1, 2, 63, 64, 65, 300, rvf::IDS_LIMIT, rvf::IDS_LIMIT + 1] {
+        for interval in [0, 1, 2, 64, u16::MAX] {
+            // Steps so wide that the varints are as long as they get.
+            let mut ids = rng.rising(length, 1 << 63, 48);
+            same_map(&ids, Encoding::Delta { interval }, (1, interval.into()));
+            same_map(&ids, Encoding::Raw, (0, 0));
+            ids.reverse();
+            same_map(&ids, Encoding::Delta { interval }, (1, interval.into()));
+        }
+    }
+}
+
+fn same_map(ids: &[u64], encoding: Encoding, (number, interval): (u64, u64)) {
+    let plan = idmap::plan(ids, number, interval);
+    let wanted = answer(plan.as_ref().err().copied().unwrap_or(0), || maps::valid(ids, number, interval));
+    assert_eq!(rvf::write_ids(ids, encoding), wanted);
+}
+
+#[test]
+fn varints_agree_with_the_reference() {
+    let mut rng = Rng::new(804);
+    for _ in 0..50_000 {
+        let value = rng.value();
+        let room = rng.below(12);
+        let (mut ours, mut theirs) = ([0xA5; 12], [0xA5; 12]);
+        let written = varint::write(&mut theirs[..room], value);
+        let wanted = answer(written.err().unwrap_or(0), || written.unwrap_or(0));
+        assert_eq!(rvf::write_varint(&mut ours[..room], value), wanted);
+        assert_eq!(ours, theirs);
+        let length = rng.below(12);
+        let bytes: Vec<u8> = rng.bytes(length).into_iter().map(|byte| byte | rng.pick(&[0, 0x80])).collect();
+        for bytes in [&ours[..], &bytes] {
+            let read = varint::read(bytes);
+            assert_eq!(rvf::read_varint(bytes), answer(read.err().unwrap_or(0), || read.unwrap_or((0, 0))));
+        }
+    }
+}
+
 /// Each number has its name and each name its number, and all of them say something else.
 #[test]
 fn refusals_carry_their_numbers() {
@@ -130,4 +209,14 @@ fn refusals_carry_their_numbers() {
         assert!(Refusal::ALL[..index].iter().all(|other| other.meaning() != refusal.meaning()));
     }
     assert!([0, 15, 255, u32::MAX].into_iter().all(|number| Refusal::from_number(number).is_none()));
+}
+
+/// The README's table says of each number what the binding says.
+#[test]
+fn readme_has_the_meanings() {
+    let readme = include_str!("../../README.md");
+    for refusal in Refusal::ALL {
+        let row = format!("| {} | {} |\n", refusal.number(), refusal.meaning());
+        assert!(readme.contains(&row), "README.md lacks {row}");
+    }
 }

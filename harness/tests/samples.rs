@@ -5,6 +5,8 @@ use rvf_harness::calls::{Calls, Reference};
 use std::path::{Path, PathBuf};
 use std::process::Command;
 
+const NAMES: [&str; 5] = ["worked.rvf", "clean.rvf", "torn.rvf", "damaged.rvf", "nested.rvf"];
+
 fn root() -> PathBuf {
     Path::new(env!("CARGO_MANIFEST_DIR")).join("..")
 }
@@ -27,7 +29,7 @@ fn samples_are_what_the_library_makes() {
         .output()
         .expect("cargo starts");
     assert!(ran.status.success(), "{}", String::from_utf8_lossy(&ran.stderr));
-    for name in ["clean.rvf", "torn.rvf", "damaged.rvf", "nested.rvf"] {
+    for name in NAMES {
         assert!(std::fs::read(made.join(name)).expect("it was made") == sample(name), "{name} is made otherwise");
     }
 }
@@ -91,7 +93,7 @@ fn nested_answers_from_the_outer_file_alone() {
 /// The reference opens them alike.
 #[test]
 fn samples_agree_with_the_reference() {
-    for name in ["clean.rvf", "torn.rvf", "damaged.rvf", "nested.rvf"] {
+    for name in NAMES {
         let file = sample(name);
         let mut out = [0; 5];
         assert_eq!(Reference.open(&file, &mut out), 0);

@@ -27,8 +27,8 @@ fn read(path: &str) -> Option<String> {
     path.exists().then(|| std::fs::read_to_string(path).expect("a vector file is text"))
 }
 
-fn run(name: &str, text: &str, calls: &dyn Calls, lister: bool) -> Summary {
-    let summary = vectors::run(text, calls, lister);
+fn run(name: &str, text: &str, calls: &dyn Calls) -> Summary {
+    let summary = vectors::run(text, calls);
     println!("{name}, {}: {:?}, skipped {}", calls.name(), summary.run, summary.skipped);
     assert!(
         summary.differences.is_empty(),
@@ -41,7 +41,7 @@ fn run(name: &str, text: &str, calls: &dyn Calls, lister: bool) -> Summary {
 }
 
 fn run_all(name: &str, text: &str) {
-    let reference = run(name, text, &Reference, true);
+    let reference = run(name, text, &Reference);
     assert_eq!(reference.skipped, 0);
     for kind in KINDS {
         assert!(reference.run.contains_key(kind), "{name} has no line of the kind {kind}");
@@ -49,10 +49,9 @@ fn run_all(name: &str, text: &str) {
     #[cfg(feature = "linked")]
     {
         // Every line whose layer is linked must have run, and no other.
-        let library = run(name, text, &Library, false);
+        let library = run(name, text, &Library);
         for kind in KINDS {
-            let linked = vectors::layer(kind).is_some_and(|layer| Library.has(layer));
-            let wanted = if linked { reference.run.get(kind) } else { None };
+            let wanted = if Library.has(vectors::layer(kind)) { reference.run.get(kind) } else { None };
             assert_eq!(library.run.get(kind), wanted, "{name}: lines of {kind} against the library");
         }
     }

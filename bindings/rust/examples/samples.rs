@@ -32,6 +32,11 @@ fn note(bytes: &[u8]) -> Body<'_> {
     Body { kind: 7, flags: 0, bytes }
 }
 
+/// The example of the rules for the lister: one note of no bytes.
+fn worked() -> Result<Vec<u8>, Refusal> {
+    append(&[], &[note(b"")], &[], 500)
+}
+
 /// Three batches: two objects, then both of them anew with a note, then a third object
 /// while the first batch's segment (id 0) is retired.
 fn clean() -> Result<Vec<u8>, Refusal> {
@@ -49,7 +54,7 @@ fn torn(clean: &[u8]) -> Result<Vec<u8>, Refusal> {
 
 /// The clean file with one bit of the newest vectors changed.
 fn damaged(clean: &[u8]) -> Result<Vec<u8>, Refusal> {
-    let newest = rvf::entries(clean)?.into_iter().filter(|entry| entry.kind == rvf::VEC).last();
+    let newest = rvf::entries(clean)?.into_iter().rfind(|entry| entry.kind == rvf::VEC);
     let offset = newest.map_or(0, |entry| entry.offset) as usize;
     let mut file = clean.to_vec();
     // The segment's header takes 64 bytes, the payload's directory 64 more; then the columns.
@@ -65,7 +70,13 @@ fn nested(clean: &[u8]) -> Result<Vec<u8>, Refusal> {
 fn main() -> Result<(), Box<dyn std::error::Error>> {
     let folder = std::env::args().nth(1).ok_or("name the folder to write to")?;
     let clean = clean()?;
-    let files = [("torn.rvf", torn(&clean)?), ("damaged.rvf", damaged(&clean)?), ("nested.rvf", nested(&clean)?), ("clean.rvf", clean)];
+    let files = [
+        ("worked.rvf", worked()?),
+        ("torn.rvf", torn(&clean)?),
+        ("damaged.rvf", damaged(&clean)?),
+        ("nested.rvf", nested(&clean)?),
+        ("clean.rvf", clean),
+    ];
     for (name, bytes) in files {
         std::fs::write(Path::new(&folder).join(name), bytes)?;
     }

@@ -4,14 +4,18 @@
 //! changed nothing. What each call answers, for all input, is proved of the library
 //! (`docs/CLAIMS.md`); the few lines here hand slices over and give the numbers names.
 
+mod maps;
+mod payloads;
 mod reading;
 mod refusal;
 pub mod sys;
 mod writing;
 
+pub use maps::{read_ids, read_varint, write_ids, write_varint, IDS_LIMIT};
+pub use payloads::{check_vectors, vector_of, vector_of_into};
 pub use reading::{
-    component, entries, entry, open, payload, vector, vector_into, Component, Dtype, Entry, Manifest, OpenRefused, Shape,
-    Vector,
+    component, entries, entry, list, open, payload, vector, vector_into, Component, Dtype, Entry, Manifest, OpenRefused,
+    Shape, Vector,
 };
 pub use refusal::Refusal;
 pub use writing::{append, batch, vectors, Appended, Body, Encoding, Vectors};
@@ -20,6 +24,10 @@ pub use writing::{append, batch, vectors, Appended, Body, Encoding, Vectors};
 pub const FILE_LIMIT: usize = 16_777_216;
 /// The longest vector, in bytes: 1,024 components of four bytes.
 pub const VECTOR_LIMIT: usize = 4_096;
+/// The longest file that the lister lists, in bytes.
+pub const LISTED_LIMIT: usize = 65_536;
+/// Room for the longest list: 1,027 lines of at most 97 bytes.
+pub const LIST_ROOM: usize = 102_400;
 /// The longest batch, in bytes.
 pub const BATCH_LIMIT: usize = 1_048_576;
 /// The type of a segment of vectors, and of a manifest.

@@ -1,6 +1,6 @@
 //! Reading: the manifest, its directory, payloads, vectors and components of a file.
 
-use crate::{accepted, sys, Refusal, VECTOR_LIMIT};
+use crate::{accepted, sys, Refusal, LIST_ROOM, VECTOR_LIMIT};
 use std::fmt;
 
 /// What opening answers: the file's manifest.
@@ -88,6 +88,17 @@ pub fn entries(file: &[u8]) -> Result<Vec<Entry>, Refusal> {
     Ok(each.collect::<Result<Vec<_>, _>>()?.into_iter().flatten().collect())
 }
 
+/// What the lister prints about a file of at most `LISTED_LIMIT` bytes: a line an entry, the
+/// manifest and its end; or the line `refused n`.
+pub fn list(file: &[u8]) -> String {
+    let mut buffer = vec![0; LIST_ROOM];
+    let mut out = [0; 1];
+    let (at, room) = (buffer.as_mut_ptr(), buffer.len());
+    accepted(unsafe { sys::rvf_list(file.as_ptr(), file.len(), at, room, &mut out) }).expect("the buffer has room for any list");
+    buffer.truncate(out[0] as usize);
+    String::from_utf8(buffer).expect("a list is ASCII")
+}
+
 /// The payload of the live segment with an id: a part of the file itself. Its hash
 /// agrees; what lies inside is not checked.
 pub fn payload(file: &[u8], id: u64) -> Result<&[u8], Refusal> {
@@ -164,13 +175,19 @@ pub struct Shape {
     pub length: usize,
 }
 
+impl Shape {
+    /// The shape that the library's values tell.
+    pub(crate) fn of([dim, dtype, length]: [u64; 3]) -> Shape {
+        Shape { dim: dim as usize, dtype: Dtype::of(dtype), length: length as usize }
+    }
+}
+
 /// Writes the vector with an id to the front of the buffer, in dimension order.
 pub fn vector_into(file: &[u8], id: u64, buffer: &mut [u8]) -> Result<Shape, Refusal> {
     let mut out = [0; 3];
     let (at, room) = (buffer.as_mut_ptr(), buffer.len());
     accepted(unsafe { sys::rvf_vector(file.as_ptr(), file.len(), id, at, room, &mut out) })?;
-    let [dim, dtype, length] = out;
-    Ok(Shape { dim: dim as usize, dtype: Dtype::of(dtype), length: length as usize })
+    Ok(Shape::of(out))
 }
 
 /// A vector: its bytes in dimension order, and what they are.
@@ -187,11 +204,16 @@ impl Vector {
     }
 }
 
+/// The vector that a call writes to a buffer; the buffer holds the longest there is.
+pub(crate) fn owned(write: impl FnOnce(&mut [u8]) -> Result<Shape, Refusal>) -> Result<Vector, Refusal> {
+    let mut buffer = [0; VECTOR_LIMIT];
+    let shape = write(&mut buffer)?;
+    Ok(Vector { dtype: shape.dtype, bytes: buffer[..shape.length].to_vec() })
+}
+
 /// The vector with an id.
 pub fn vector(file: &[u8], id: u64) -> Result<Vector, Refusal> {
-    let mut buffer = [0; VECTOR_LIMIT];
-    let shape = vector_into(file, id, &mut buffer)?;
-    Ok(Vector { dtype: shape.dtype, bytes: buffer[..shape.length].to_vec() })
+    owned(|buffer| vector_into(file, id, buffer))
 }
 
 /// A component of the vector with an id.

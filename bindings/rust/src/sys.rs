@@ -58,6 +58,13 @@ extern "C" {
         out: *mut [u64; 3],
     ) -> u32;
     pub fn rvf_component(file: *const u8, file_len: usize, id: u64, index: u64, out: *mut [u64; 2]) -> u32;
+    pub fn rvf_list(
+        file: *const u8,
+        file_len: usize,
+        buffer: *mut u8,
+        buffer_len: usize,
+        out: *mut [u64; 1],
+    ) -> u32;
     pub fn rvf_append(
         buffer: *mut u8,
         buffer_len: usize,

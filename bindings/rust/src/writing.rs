@@ -10,6 +10,16 @@ pub enum Encoding {
     Delta { interval: u16 },
 }
 
+impl Encoding {
+    /// The library's numbers for the encoding and its interval.
+    pub(crate) fn numbers(self) -> (u64, u64) {
+        match self {
+            Encoding::Raw => (0, 0),
+            Encoding::Delta { interval } => (1, u64::from(interval)),
+        }
+    }
+}
+
 /// Vectors to be written as one block. The ids rise strictly; the columns are all values
 /// of dimension 0, then all of dimension 1, and so on.
 #[derive(Clone, Copy, Debug)]
@@ -25,10 +35,7 @@ pub struct Vectors<'a> {
 /// The payload of a segment that holds these vectors. A payload that no batch could hold
 /// is refused as one for which there is no room.
 pub fn vectors(input: &Vectors) -> Result<Vec<u8>, Refusal> {
-    let (encoding, interval) = match input.encoding {
-        Encoding::Raw => (0, 0),
-        Encoding::Delta { interval } => (1, u64::from(interval)),
-    };
+    let (encoding, interval) = input.encoding.numbers();
     let mut buffer = vec![0; BATCH_LIMIT];
     let mut out = [0; 1];
     accepted(unsafe {

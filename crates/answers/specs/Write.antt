@@ -5,6 +5,8 @@ use Prim.Native.Nat.{ℕ, suc, _≤_, _<_}
 use mathlib.Core.Path.{_≡_, refl}
 use mathlib.Core.Bool.{Bool, true, false, cond}
 use mathlib.Core.List.{List, [], _∷_}
+use native.Mathlib.Decide.{decLe}
+use native.Mathlib.Nat.{lt-of-not-le}
 use native.Mathlib.Omega.{arith}
 use lib.Dec.{eqb, leb}
 use lib.ListN.{length}
@@ -43,3 +45,18 @@ module _ (bytes buf : List ℕ) where
       → (Length n ≡ writeAnswer bad bytes buf) × (exit ≡ writeBuffer bad bytes buf)
   unfolding writeAnswer writeBuffer
   write-done bad n exit e h k p = rw (e, le-leb (length bytes) (length buf) h, k) (refl, p)
+
+-- a length that is answered is within the buffer
+pub wrote-within : (bytes buf : List ℕ) (n : ℕ) → Length n ≡ writeAnswer 0 bytes buf → n ≤ length buf
+unfolding writeAnswer
+wrote-within bytes buf n e = go (decLe (length bytes) (length buf))
+  where
+    go : Dec (length bytes ≤ length buf) → n ≤ length buf
+    go (yes h) =
+        let q : Length n ≡ Length (length bytes) = rw (le-leb (length bytes) (length buf) h) at e in
+        let r : n ≡ length bytes = cc in
+        omega arith
+    go (no h) =
+        let q : Length n ≡ Refused 9 = rw (lt-leb (length bytes) (length buf) (lt-of-not-le h)) at e in
+        let z : _≡_ {A = ℕ} 0 1 = cc in
+        omega arith

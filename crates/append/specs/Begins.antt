@@ -1,13 +1,14 @@
 -- What an append begins from: an empty file, or the file's manifest; and the states that its new directory gets.
 -- Assumes nothing.
-use Prim.Native.Nat.{ℕ, zero, suc, _+_, _-_, _≤_, _<_}
+use Prim.Native.Nat.{ℕ, _+_, _-_, _≤_, _<_}
 use mathlib.Core.Path.{_≡_, refl, sym, ap, _∙_}
 use mathlib.Core.Bool.{true, false}
 use mathlib.Core.Option.{Option, none, some}
 use mathlib.Core.List.{List, [], _∷_, _++_, append-assoc}
 use native.Mathlib.Omega.{arith}
-use lib.ListN.{length, take, replicate, length-append}
+use lib.ListN.{length, take, replicate, length-append, replicate-append-replicate}
 use lib.Seq.{take-take, take-append-add, length-take-le}
+use Rattle.octets.specs.Zero.{zeros-front}
 use Rattle.limits.specs.Limits.{maxEntries}
 use Rattle.le.specs.Le.{Bytes}
 use Rattle.chain.specs.Last.{Found, upTo}
@@ -24,16 +25,6 @@ use Rattle.appending.specs.Opens.{kept}
 use Rattle.appending.specs.Buffer.{start-inside}
 use Rattle.append.specs.Late.{nextOf}
 use Rattle.append.specs.Base.{Base, kept-opens}
-
--- zeros, taken from zeros
-zeros-front : (n m : ℕ) → n ≤ m → _≡_ {A = List ℕ} (take n (replicate m 0)) (replicate n 0)
-zeros-front zero m h = refl
-zeros-front (suc n) zero h = absurd (omega arith)
-zeros-front (suc n) (suc m) h = ap (λ (x : List ℕ). 0 ∷ x) (zeros-front n m (omega arith))
-
-zeros-add : (n m : ℕ) → _≡_ {A = List ℕ} (replicate n 0 ++ replicate m 0) (replicate (n + m) 0)
-zeros-add zero m = let e : 0 + m ≡ m = omega arith in ap (λ (k : ℕ). replicate k 0) (sym e)
-zeros-add (suc n) m = let e : suc n + m ≡ suc (n + m) = omega arith in ap (λ (x : List ℕ). 0 ∷ x) (zeros-add n m) ∙ ap (λ (k : ℕ). replicate k 0) (sym e)
 
 -- ---- an empty file
 
@@ -56,11 +47,8 @@ module _ (g : List ℕ) (none-found : opened g ≡ none) where
   states-empty bs ids h =
       zeros-front (newCount (opened g) bs) 1024 h
       ∙ ap (λ (o : Option (Found Link)). replicate (newCount o bs) 0) none-found
-      ∙ zero-count (length bs)
+      ∙ sym (replicate-append-replicate 0 (length bs) 0)
       ∙ sym (ap (λ (o : Option (Found Link)). newStates o bs ids) none-found)
-    where
-      zero-count : (k : ℕ) → _≡_ {A = List ℕ} (replicate (0 + k) 0) (replicate k 0)
-      zero-count k = let e : 0 + k ≡ k = omega arith in ap (λ (j : ℕ). replicate j 0) e
 
   pub retire-none : (ids : List ℕ) → length ids ≡ 0 → retireHeld (oldLinks (opened g)) (oldStates (opened g)) ids ≡ true
   unfolding retireHeld
@@ -125,6 +113,6 @@ module _ (f old offsets : List ℕ) (n offset end id count : ℕ) (f-is : take n
       ap (take (newCount (opened f) bs)) (e ∙ ap (λ (w : Option (Found Link)). retired (oldLinks w) (oldStates w) ids ++ replicate (1024 - count) 0) o)
       ∙ ap (λ (k : ℕ). take k (retired (m .found .before) (states (m .found)) ids ++ replicate (1024 - count) 0)) c
       ∙ take-append-add (retired (m .found .before) (states (m .found)) ids) (replicate (1024 - count) 0) (1 + length bs)
-      ∙ ap (λ (x : List ℕ). retired (m .found .before) (states (m .found)) ids ++ x) (zeros-front (1 + length bs) (1024 - count) z ∙ sym (zeros-add 1 (length bs)))
+      ∙ ap (λ (x : List ℕ). retired (m .found .before) (states (m .found)) ids ++ x) (zeros-front (1 + length bs) (1024 - count) z ∙ sym (replicate-append-replicate 1 (length bs) 0))
       ∙ sym (append-assoc (retired (m .found .before) (states (m .found)) ids) (0 ∷ []) (replicate (length bs) 0))
       ∙ sym (ap (λ (w : Option (Found Link)). newStates w bs ids) o)

@@ -9,7 +9,6 @@ use mathlib.Core.List.{List, _++_}
 use native.Mathlib.Omega.{arith}
 use lib.Dec.{leb}
 use lib.ListN.{length, take, drop, length-take}
-use borrow.Author.Tests.{eqb-true}
 use Rattle.octets.specs.Zero.{allZero, and-split}
 use Rattle.octets.specs.Over.{over, length-over}
 use Rattle.octets.specs.Round.{round64, round64-lt}
@@ -24,7 +23,7 @@ use Rattle.manifest.specs.Payload.{manifestPayload}
 use Rattle.manifest.specs.Opening.{opened}
 use Rattle.manifest_write.specs.At.{Inside, payloadAt}
 use Rattle.batch.specs.Form.{Body, lineSize, lineLength, lineHeld, linesHeld, bodyCount, bodiesAt, batchHeld, bodiesFrom, bodiesOf}
-use Rattle.batch.specs.Lines.{bodies-count, held-bounds}
+use Rattle.batch.specs.Lines.{bodies-count, begins-inside, held-bounds}
 use Rattle.appending.specs.Append.{startOf, nextId, bodyLinks, bodyBytes, bodiesEnd, manifestAt, manifestId, newCount, newLinks}
 use Rattle.appending.specs.Written.{bodies-held, bodies-length}
 use Rattle.append.specs.Late.{nextOf, bytesWith, count-number, id-number, at-number}
@@ -32,21 +31,13 @@ use Rattle.append.specs.Base.{Base, new-inside, new-payload, buffer-fron
 
 -- ---- the bodies take little more than the batch
 
-lines-low : (n at : ℕ) (lines : List ℕ) (end : ℕ) → linesHeld n at lines end ≡ true → at ≤ end
-unfolding linesHeld
-lines-low zero at lines end e = let q : at ≡ end = eqb-true at end e in omega arith
-lines-low (suc n) at lines end e =
-    let a = and-split (lineHeld at lines) (linesHeld n (at + lineLength lines) (drop lineSize lines) end) e in
-    let h = lines-low n (at + lineLength lines) (drop lineSize lines) end (a .1) in
-    omega arith
-
 lines-small : (n at : ℕ) (lines : List ℕ) (end : ℕ) (s : List ℕ) (start : ℕ) → linesHeld n at lines end ≡ true
     → bodiesEnd start (bodiesFrom n at lines s) ≤ start + 128 * n + (end - at)
 unfolding linesHeld bodiesFrom bodiesEnd
 lines-small zero at lines end s start e = omega arith
 lines-small (suc n) at lines end s start e =
     let a = and-split (lineHeld at lines) (linesHeld n (at + lineLength lines) (drop lineSize lines) end) e in
-    let low = lines-low n (at + lineLength lines) (drop lineSize lines) end (a .1) in
+    let low = begins-inside n (at + lineLength lines) (drop lineSize lines) end (a .1) in
     let body : List ℕ = take (lineLength lines) (drop at s) in
     let l = length-take (lineLength lines) (drop at s) in
     let r = round64-lt (length (take (lineLength lines) (drop at s))) in

@@ -1,13 +1,14 @@
 -- The directory's states with some ids retired, by the lists that the code makes of the directory: the entries' ids, types and states.
 -- Assumes nothing.
-use Prim.Native.Nat.{ℕ, zero, suc, _+_, _-_, _≤_}
+use Prim.Native.Nat.{ℕ, _+_, _-_, _≤_}
 use mathlib.Core.Path.{_≡_, sym, ap, ap₂, subst, _∙_}
 use mathlib.Core.Option.{some}
-use mathlib.Core.List.{List, [], _∷_, _++_, map}
+use mathlib.Core.List.{List, _∷_, _++_, map}
 use native.Mathlib.Omega.{arith}
 use lib.ListN.{length, take, drop, replicate, length-map}
 use lib.Seq.{drop-at}
 use Rattle.octets.specs.Over.{over}
+use Rattle.octets.specs.Zero.{zeros-left}
 use Rattle.chain.specs.Chain.{All}
 use Rattle.segment.specs.Header.{Link}
 use Rattle.segment.specs.Chained.{offsetsOf, Rising, chain-rising}
@@ -23,18 +24,6 @@ use Rattle.appending.specs.Opens.{rising-front}
 use Rattle.append_write.specs.Laid.{payload-front}
 use Rattle.retire.specs.Marks.{retireHeldBy, retiredBy, Rises, held-same, retired-same, rises-links}
 use Rattle.append.specs.Entries.{idsAt, kindsAt, ids-lying, kinds-lying}
-
--- zeros less some zeros
-zeros-left : (n m : ℕ) → _≡_ {A = List ℕ} (drop (0 + n) (replicate m 0)) (replicate (m - n) 0)
-zeros-left zero m = let e : m - 0 ≡ m = omega arith in ap (λ (k : ℕ). replicate k 0) (sym e)
-zeros-left (suc n) zero =
-    let e : 0 + suc n ≡ suc n = omega arith in
-    let d : 0 - suc n ≡ 0 = omega arith in
-    ap (λ (k : ℕ). drop k []) e ∙ ap (λ (k : ℕ). replicate k 0) (sym d)
-zeros-left (suc n) (suc m) =
-    let e : 0 + suc n ≡ suc (0 + n) = omega arith in
-    let d : suc m - suc n ≡ m - n = omega arith in
-    ap (λ (k : ℕ). drop k (replicate (suc m) 0)) e ∙ zeros-left n m ∙ ap (λ (k : ℕ). replicate k 0) (sym d)
 
 module _ (f : List ℕ) (manifest count : ℕ) (m : ManifestAt f manifest count) where
   abbrev b : List Link
@@ -111,7 +100,8 @@ module _ (f : List ℕ) (manifest count : ℕ) (m : ManifestAt f manifest count)
       unfolding over
       marks-laid want y z h e =
           let n : length (statesIn count (drop 8 part)) ≡ count = ap length said ∙ states-long in
+          let d : 0 + length (statesIn count (drop 8 part)) ≡ count = omega (arith, n) in
           let tail : drop count ss ≡ replicate (1024 - count) 0 =
           ap (drop count) s ∙ drop-at (statesIn count (drop 8 part)) (drop (0 + length (statesIn count (drop 8 part))) ss₀) count n
-          ∙ ap (λ (j : ℕ). drop (0 + j) ss₀) n ∙ ap (drop (0 + count)) z ∙ zeros-left count 1024 in
+          ∙ ap (λ (j : ℕ). drop j ss₀) d ∙ ap (drop count) z ∙ zeros-left count 1024 in
           ap₂ _++_ (e ∙ marked want) tail

@@ -29,10 +29,13 @@ use Rattle.claim.specs.Cut.{Alike, LastAppend, cutAt, cut-alike}
 use Rattle.append_cut.specs.declared.CutRead.{CutRead}
 use Rattle.append_cut.specs.declared.CutRead.the-variants.{Read, NotAppended, NotCut}
 
--- what is promised: a vector that is read is the one of the file before the append, and the buffer for it is what reading that file leaves. Else that
--- buffer is as it was: the append has refused with this number; or it was accepted, and k leaves all of its bytes
+-- what is promised: a vector is read where the append was accepted and k leaves not all of its bytes; it is the one of the file before the append, and
+-- the buffer for it is what reading that file leaves. Else that buffer is as it was: the append has refused with this number; or it was accepted, and k
+-- leaves all of its bytes
 unfoldable pub Says : List ℕ → ℕ → List ℕ → List ℕ → ℕ → ℕ → List ℕ → List ℕ → CutRead → Type 0
-Says old n batch ids k id out exit (Read v) = (v ≡ vectorCase (take n old) id out) × (exit ≡ vectorAfter (take n old) id out)
+Says old n batch ids k id out exit (Read v) =
+    ((vs : List ℕ) × ((Accepted vs ≡ appendAnswer old n batch ids) × (k < getD vs 0 0 - startOf (opened (take n old)))))
+    × ((v ≡ vectorCase (take n old) id out) × (exit ≡ vectorAfter (take n old) id out))
 Says old n batch ids k id out exit (NotAppended e) = (Refusal e [] ≡ appendAnswer old n batch ids) × (exit ≡ out)
 Says old n batch ids k id out exit NotCut =
     (vs : List ℕ) × ((Accepted vs ≡ appendAnswer old n batch ids) × ((getD vs 0 0 - startOf (opened (take n old)) ≤ k) × (exit ≡ out)))
@@ -145,4 +148,6 @@ module _ (old : List ℕ) (n : ℕ) (batch ids : List ℕ) (ts : ℕ) (end i cou
     pub says-read : (id : ℕ) (out exit : List ℕ) (v : Vector) → v ≡ vectorCase (take (start + k) new) id out → exit ≡ vectorAfter (take (start + k) new) id out
         → Says old n batch ids k id out exit (Read v) × (new ≡ appendBuffer old n batch ids ts)
     unfolding Says
-    says-read id out exit v e b = ((e ∙ alike .vector id out, b ∙ alike .buffer id out), accepts .leaves)
+    says-read id out exit v e b =
+        let s = starts within in
+        (((end ∷ i ∷ count ∷ [], (accepts .answers, omega (arith, s))), (e ∙ alike .vector id out, b ∙ alike .buffer id out)), accepts .leaves)

@@ -34,12 +34,13 @@ twiceAnswer old first second ids ts = laterAnswer (appendBuffer old 0 first [] t
 unfoldable pub twiceBuffer : List ℕ → List ℕ → List ℕ → List ℕ → ℕ → List ℕ
 twiceBuffer old first second ids ts = laterBuffer (appendBuffer old 0 first [] ts) (appendAnswer old 0 first []) second ids ts
 
--- what is promised: opening answers the model's manifest and end and the number of its entries, and is never without a manifest; a refusal is an
--- append's
+-- what is promised: where both appends are accepted, opening answers what the second reported, and that is the model's manifest and end and the number
+-- of its entries; it is never without a manifest; a refusal is an append's
 unfoldable pub Says : List ℕ → List ℕ → List ℕ → List ℕ → ℕ → Twice → Type 0
 Says old first second ids ts (At offset end id count) =
-    (m : Entry)
+    (Accepted (end ∷ id ∷ count ∷ []) ≡ twiceAnswer old first second ids ts)
+    × ((m : Entry)
     × ((twiceModel first second ids ts .manifest ≡ some m)
-    × ((offset ≡ m .link .offset) × ((end ≡ twiceModel first second ids ts .end) × ((id ≡ m .link .id) × (count ≡ length (twiceModel first second ids ts .entries))))))
+    × ((offset ≡ m .link .offset) × ((end ≡ twiceModel first second ids ts .end) × ((id ≡ m .link .id) × (count ≡ length (twiceModel first second ids ts .entries)))))))
 Says old first second ids ts Lost = ⊥
 Says old first second ids ts (Refused n) = Refusal n [] ≡ twiceAnswer old first second ids ts

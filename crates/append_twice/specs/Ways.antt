@@ -20,6 +20,7 @@ use Rattle.appending.specs.Buffer as buffer
 use Rattle.appending.specs.Buffer.{Holds, with-length, file-is}
 use Rattle.claim.specs.Model.{Entry, newManifestEntry, acceptedModel, feed, feedAll}
 use Rattle.claim.specs.Runs.{Call, fedAll, isAccepted, fileAfter, Run, stop, call}
+use Rattle.claim.specs.Reports.{orBefore, ifAccepted, lastAccepted}
 use Rattle.claim.specs.Claim.{empty}
 use Rattle.claim.specs.Demand3.{demand3}
 use Rattle.append_twice.specs.declared.Twice.the-variants as tws
@@ -75,6 +76,12 @@ module _ (old new₁ new₂ first second ids : List ℕ) (ts : ℕ) (t : ts < 2 
     unfolding twiceModel fedAll isAccepted
     opens m e = demand3 empty run .claim .answers m e
 
+    -- and that is what the second append reported
+    reported : (m : Entry) → twiceModel first second ids ts .manifest ≡ some m
+        → Accepted vs₂ ≡ Accepted (twiceModel first second ids ts .end ∷ m .link .id ∷ length (twiceModel first second ids ts .entries) ∷ [])
+    unfolding twiceModel fedAll isAccepted lastAccepted orBefore ifAccepted
+    reported m e = demand3 empty run .claim .last m e (Accepted vs₂) refl
+
   -- as the function has it: two answers, by cases
   module _ (r₁ r₂ : Appended) (end₁ id₁ count₁ end₂ id₂ count₂ : ℕ) (e₁ : r₁ ≡ aps.At end₁ id₁ count₁) (e₂ : r₂ ≡ aps.At end₂ id₂ count₂) (a₁ : Appends old 0 first [] ts (appendedAnswer r₁) new₁) (a₂ : Appends new₁ end₁ second ids ts (appendedAnswer r₂) new₂) where
     one : Appends old 0 first [] ts (Accepted (end₁ ∷ id₁ ∷ count₁ ∷ [])) new₁
@@ -96,6 +103,14 @@ module _ (old new₁ new₂ first second ids : List ℕ) (ts : ℕ) (t : ts < 2 
         two .leaves
         ∙ ap (λ (x : List ℕ). laterBuffer x (Accepted (end₁ ∷ id₁ ∷ count₁ ∷ [])) second ids ts) (one .leaves)
         ∙ ap (λ (x : Answer). laterBuffer (appendBuffer old 0 first [] ts) x second ids ts) (one .answers)
+
+    -- the second append's answer is that of the two
+    both-answer : Accepted (end₂ ∷ id₂ ∷ count₂ ∷ []) ≡ twiceAnswer old first second ids ts
+    unfolding twiceAnswer laterAnswer
+    both-answer =
+        two .answers
+        ∙ ap (λ (x : List ℕ). laterAnswer x (Accepted (end₁ ∷ id₁ ∷ count₁ ∷ [])) second ids) (one .leaves)
+        ∙ ap (λ (x : Answer). laterAnswer (appendBuffer old 0 first [] ts) x second ids) (one .answers)
 
     -- opening is answered by the claim
     answered : (o : op.Opened) → openedCase (take end₂ new₂) ≡ o → (m : Entry) → twiceModel first second ids ts .manifest ≡ some m
@@ -121,7 +136,9 @@ module _ (old new₁ new₂ first second ids : List ℕ) (ts : ℕ) (t : ts < 2 
         ∷ length (twiceModel first second ids ts .entries)
         ∷ (length (take end₂ new₂) / 64 - m .0 .link .offset / 64)
         ∷ []) = answered (ops.At offset end id count tried) e (m .0) (m .1) in
-        ((m .0, (m .1, (cc, (cc, (cc, cc))))), both-left)
+        let z = reported (end₁ ∷ id₁ ∷ count₁ ∷ []) (end₂ ∷ id₂ ∷ count₂ ∷ []) one two (m .0) (m .1) in
+        let same : Accepted (end ∷ id ∷ count ∷ []) ≡ Accepted (end₂ ∷ id₂ ∷ count₂ ∷ []) = cc in
+        ((same ∙ both-answer, (m .0, (m .1, (cc, (cc, (cc, cc)))))), both-left)
 
     pub way-none : (tried : ℕ) → openedCase (take end₂ new₂) ≡ ops.NoManifest tried → Says old first second ids ts tws.Lost × (new₂ ≡ twiceBuffer old first second ids ts)
     unfolding Says openedAnswer

@@ -2,7 +2,7 @@
 -- Assumes nothing.
 use Prim.Native.Nat.{ℕ, zero, suc, _-_, _^_, _≤_, _<_}
 use mathlib.Core.Path.{_≡_, refl, sym}
-use mathlib.Core.Bool.{Bool, true, false, _&&_}
+use mathlib.Core.Bool.{Bool, true, false, _&&_, and-false}
 use mathlib.Core.Option.{Option, none, some}
 use mathlib.Core.List.{List, [], _∷_}
 use native.Mathlib.Omega.{arith}
@@ -82,11 +82,7 @@ accepted-when room n o batch ids vs q =
 pub empty-passes : (n : ℕ) (o : Option (Found Link)) → (o ≡ none → n ≡ 0) → ltb 0 n && isNone o ≡ false
 unfolding isNone
 empty-passes n none h = rw (h refl)
-empty-passes n (some r) h = pick (ltb 0 n)
-  where
-    pick : (t : Bool) → t && false ≡ false
-    pick true = refl
-    pick false = refl
+empty-passes n (some r) h = and-false (ltb 0 n)
 
 pub accepts : (room n : ℕ) (o : Option (Found Link)) (batch ids : List ℕ) → Fits room n o batch ids
     → answerOn room n o batch ids ≡ Accepted (newEnd o (bodiesOf batch) ∷ manifestId o (bodiesOf batch) ∷ newCount o (bodiesOf batch) ∷ [])

@@ -7,7 +7,7 @@ use native.Mathlib.Omega.{arith}
 use lib.ListN.{length, drop, getD, replicate, length-append, length-replicate, length-drop}
 use lib.Seq.{getD-append-add, length-take-le}
 use Rattle.le.specs.Le.{leBytes}
-use Rattle.chain.specs.Chain.{All}
+use Rattle.chain.specs.Chain.{All, all-map}
 use Rattle.segment.specs.Header.{Link}
 use Rattle.segment.specs.Laws.{linkFront, Lies, lies, size-least}
 use Rattle.segment.specs.Chained.{chain}
@@ -34,13 +34,8 @@ lying-hashed f l y =
     let n = length-drop 0x28 (drop (l .offset) f) in
     ap (λ (x : Link). length (x .hash)) (z .link-is) ∙ length-take-le 16 (drop 0x28 (drop (l .offset) f)) (omega arith)
 
-all-hashed : (f : List ℕ) (ls : List Link) → All (Lying f) ls → All Hashed ls
-unfolding All
-all-hashed f [] t = tt
-all-hashed f (l ∷ ls) t = (lying-hashed f l (t .0), all-hashed f ls (t .1))
-
 pub chain-hashed : (f : List ℕ) (b z : List Link) → chain f ≡ b ++ z → All Hashed b
-chain-hashed f b z e = all-hashed f b (chain-lying f b z e)
+chain-hashed f b z e = all-map (Lying f) Hashed (lying-hashed f) b (chain-lying f b z e)
 
 pub bodies-hashed : (at id ts : ℕ) (bs : List Body) → All Hashed (bodyLinks at id ts bs)
 unfolding All bodyLinks linkOf
@@ -57,14 +52,10 @@ entry-written l h s =
     (simp length-append (omega arith), g)
 
 all-written : (ls : List Link) → All Hashed ls → All (λ l. (s : ℕ) → (length (entryBytes l s) ≡ entrySize) × (getD (entryBytes l s) 41 0 ≡ s)) ls
-unfolding All
-all-written [] t = tt
-all-written (l ∷ ls) t = (entry-written l (t .0), all-written ls (t .1))
+all-written = all-map Hashed _ entry-written
 
 all-long : (ls : List Link) → All Hashed ls → All (λ l. (s : ℕ) → length (entryBytes l s) ≡ entrySize) ls
-unfolding All
-all-long [] t = tt
-all-long (l ∷ ls) t = ((λ s. entry-written l (t .0) s .0), all-long ls (t .1))
+all-long = all-map Hashed _ (λ l h s. entry-written l h s .0)
 
 -- ---- the payload
 

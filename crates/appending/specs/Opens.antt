@@ -12,9 +12,10 @@ use borrow.Author.Tests.{le-leb}
 use Rattle.octets.specs.Round.{round64, round64-ge}
 use Rattle.octets.specs.Zero.{sameBytes, equal-same, and-split}
 use Rattle.limits.specs.Limits.{maxFile, maxEntries}
-use Rattle.chain.specs.Chain.{All, Exact, afters, afters-append, exact-append, sizes}
+use Rattle.chain.specs.Chain.{All, all-append, Exact, afters, afters-append, exact-append, sizes}
 use Rattle.chain.specs.Last as last
 use Rattle.chain.specs.Last.{Found, upTo, Stands, last-stands}
+use Rattle.chain.specs.Walk.{sizes-append}
 use Rattle.segment.specs.Header.{Link, start, reader, size, whole, typeHeld, flagsHeld}
 use Rattle.segment.specs.Laws.{segment-format, afters-at}
 use Rattle.segment.specs.Chained.{chain, link-place, Rising, chain-rising}
@@ -29,11 +30,6 @@ use Rattle.appending.specs.Append.{keptLinks, startOf, nextId, oldLinks,
 use Rattle.appending.specs.Written.{BodyHeld, bodyLinks-length, bodies-exact, afters-bodies, bodies-length}
 use Rattle.appending.specs.Manifest.{Hashed, chain-hashed, bodies-hashed, payload-length, states-back}
 use Rattle.appending.specs.States.{states-append, states-live, retired-length, retired-held}
-
-all-append : (P : Link → Type 0) (xs ys : List Link) → All P xs → All P ys → All P (xs ++ ys)
-unfolding All
-all-append P [] ys t u = u
-all-append P (x ∷ xs) ys t u = (t .0, all-append P xs ys (t .1) u)
 
 pub rising-front : (xs ys : List Link) (least : ℕ) → Rising least (xs ++ ys) → Rising least xs
 unfolding Rising
@@ -53,11 +49,6 @@ kept-none : Kept none
 unfolding upTo afters startOf nextId sizes All keptStates statesHeld
 kept-none = record { state = refl; sizes-is = refl; hashed = tt; many = λ ids. refl; held = λ ids h. refl }
 
-sizes-append : (xs ys : List Link) → sizes reader (xs ++ ys) ≡ sizes reader xs + sizes reader ys
-unfolding sizes
-sizes-append [] ys = omega arith
-sizes-append (x ∷ xs) ys = omega (arith, sizes-append xs ys)
-
 -- the states of a confirmed manifest are held
 confirmed-states : (b : List Link) (l : Link) → confirmed b l ≡ true → statesHeld b (statesIn (length b) (drop 8 (l .payload))) ≡ true
 unfolding confirmed
@@ -71,7 +62,7 @@ kept-some f r s =
     let b : List Link = r .before in
     let place : r .link .offset ≡ sizes reader (r .before) = link-place f (r .before) (s .rest) (r .link) (s .split) in
     let at : afters reader start (r .before) .at ≡ 0 + sizes reader (r .before) = afters-at start (r .before) in
-    let z : sizes reader (r .before ++ r .link ∷ []) ≡ r .link .offset + size (r .link) = sizes-append (r .before) (r .link ∷ []) ∙ omega arith in
+    let z : sizes reader (r .before ++ r .link ∷ []) ≡ r .link .offset + size (r .link) = sizes-append reader (r .before) (r .link ∷ []) ∙ omega arith in
     let n : length (statesIn (length (r .before)) (drop 8 (r .link .payload))) ≡ length (r .before) = length-statesBy entrySize (length (r .before)) (drop 8 (r .link .payload)) in
     let front : chain f ≡ (r .before ++ r .link ∷ []) ++ s .rest = s .split ∙ sym (append-assoc (r .before) (r .link ∷ []) (s .rest)) in
     let p : afters reader start (r .before) .at + size (r .link) ≡ r .link .offset + size (r .link) = omega arith in

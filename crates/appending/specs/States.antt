@@ -3,7 +3,7 @@
 -- Assumes nothing.
 use Prim.Native.Nat.{ℕ, suc, _+_, _≤_, _<_}
 use mathlib.Core.Path.{_≡_, refl, sym, ap, subst, _∙_}
-use mathlib.Core.Bool.{Bool, true, false, cond, not, _&&_, _||_}
+use mathlib.Core.Bool.{Bool, true, false, cond, not, _&&_, _||_, false≢true}
 use mathlib.Core.List.{List, [], _∷_, _++_, append-assoc}
 use native.Mathlib.Omega.{arith}
 use lib.Dec.{eqb, leb}
@@ -28,9 +28,6 @@ rising-none (l ∷ ls) ss least id r h =
     let n : eqb (l .id) id ≡ false = ne-eqb (l .id) id (λ e. omega arith) in
     rw n (rising-none ls (drop 1 ss) (l .id + 1) id (r .1) (omega arith))
 
-unequal : true ≡ false → ⊥
-unequal e = let z : _≡_ {A = ℕ} 0 1 = cc in omega arith
-
 rising-at : (xs : List Link) (l : Link) (ys : List Link) (least : ℕ) → Rising least (xs ++ l ∷ ys) → least ≤ l .id
 unfolding Rising
 rising-at [] l ys least r = r .0
@@ -49,9 +46,9 @@ no-manifest [] l ys ss least r e =
     here (eqb (getD ss 0 0) 0) (eqb (l .kind) manifestKind) (rw (same, none) at e)
   where
     here : (t u : Bool) → (t && not u) || false ≡ true → u ≡ false
-    here true true q = absurd (unequal (sym q))
+    here true true q = absurd (false≢true q)
     here true false q = refl
-    here false u q = absurd (unequal (sym q))
+    here false u q = absurd (false≢true q)
 no-manifest (x ∷ xs) l ys ss least r e =
     let low = rising-at xs l ys (x .id + 1) (r .1) in
     let n : eqb (x .id) (l .id) ≡ false = ne-eqb (x .id) (l .id) (λ q. omega arith) in
@@ -65,7 +62,7 @@ all-places P xs (y ∷ ys) h = (h xs y ys refl, all-places P (xs ++ y ∷ []) ys
 
 member-retirable : (ls : List Link) (ss ids : List ℕ) (x : ℕ) → retireHeld ls ss ids ≡ true → member x ids ≡ true → retirable ls ss x ≡ true
 unfolding retireHeld member
-member-retirable ls ss [] x h m = absurd (unequal (sym m))
+member-retirable ls ss [] x h m = absurd (false≢true m)
 member-retirable ls ss (y ∷ ys) x h m =
     let a = and-split (retirable ls ss y && not (member y ys)) _ h in
     let b = and-split (retirable ls ss y) _ (a .0) in

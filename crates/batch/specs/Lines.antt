@@ -3,7 +3,7 @@
 -- Assumes nothing.
 use Prim.Native.Nat.{ℕ, zero, suc, _+_, _-_, _*_, _≤_, _<_}
 use mathlib.Core.Path.{_≡_, refl, sym, ap, _∙_}
-use mathlib.Core.Bool.{Bool, true, false, _&&_}
+use mathlib.Core.Bool.{Bool, true, false, _&&_, and-false}
 use mathlib.Core.List.{List, []}
 use native.Mathlib.Nat.{add-zero}
 use native.Mathlib.Omega.{arith}
@@ -16,7 +16,6 @@ use Rattle.octets.specs.Parts.{part-front}
 use Rattle.le.specs.Le.{leAt}
 use Rattle.limits.specs.Limits.{maxBodies, maxBatch}
 use Rattle.segment.specs.Header.{typeHeld, flagsHeld}
-use Rattle.segment.specs.Tests.{second-fails}
 use Rattle.batch.specs.Form.{Body, lineLength, bodyKindHeld, lineHeld, linesHeld, bodyCount, bodiesAt, batchHeld, bodiesFrom, bodiesOf}
 
 -- ---- a line at the front of longer bytes is its 16 bytes
@@ -41,21 +40,21 @@ module _ (at : ℕ) (x : List ℕ) where
 
   pub line-manifest : getD x 0 0 ≡ 5 → false ≡ lineHeld at x
   unfolding lineHeld bodyKindHeld
-  line-manifest e = rw (eq-eqb (getD x 0 0) 5 e, second-fails (typeHeld (getD x 0 0)))
+  line-manifest e = rw (eq-eqb (getD x 0 0) 5 e, and-false (typeHeld (getD x 0 0)))
 
   pub line-zero : (getD x 1 0 ≡ 0 → ⊥) → false ≡ lineHeld at x
   unfolding lineHeld
-  line-zero n = rw (ne-eqb (getD x 1 0) 0 n, second-fails (bodyKindHeld (getD x 0 0)))
+  line-zero n = rw (ne-eqb (getD x 1 0) 0 n, and-false (bodyKindHeld (getD x 0 0)))
 
   pub line-flags : flagsHeld (leAt 2 x 2) ≡ false → false ≡ lineHeld at x
   unfolding lineHeld
-  line-flags e = rw (e, second-fails (bodyKindHeld (getD x 0 0) && eqb (getD x 1 0) 0))
+  line-flags e = rw (e, and-false (bodyKindHeld (getD x 0 0) && eqb (getD x 1 0) 0))
 
   -- r is the offset as the code has read it
   pub line-offset : (r : ℕ) → r ≡ leAt 4 x 4 → (r ≡ at → ⊥) → false ≡ lineHeld at x
   unfolding lineHeld
   line-offset r r-is n =
-      rw (ne-eqb (leAt 4 x 4) at (λ e. n (r-is ∙ e)), second-fails (bodyKindHeld (getD x 0 0) && eqb (getD x 1 0) 0 && flagsHeld (leAt 2 x 2)))
+      rw (ne-eqb (leAt 4 x 4) at (λ e. n (r-is ∙ e)), and-false (bodyKindHeld (getD x 0 0) && eqb (getD x 1 0) 0 && flagsHeld (leAt 2 x 2)))
 
   -- all but the last hold, and the last decides
   pub line-holds : (r : Bool) → typeHeld (getD x 0 0) ≡ true → (getD x 0 0 ≡ 5 → ⊥) → getD x 1 0 ≡ 0 → flagsHeld (leAt 2 x 2) ≡ true → leAt 4 x 4 ≡ at
@@ -82,11 +81,11 @@ module _ (s : List ℕ) where
 
   pub batch-long : maxBatch < length s → false ≡ batchHeld s
   unfolding batchHeld
-  batch-long h = rw (lt-leb (length s) maxBatch h, second-fails (leb 16 (length s)))
+  batch-long h = rw (lt-leb (length s) maxBatch h, and-false (leb 16 (length s)))
 
   pub batch-zeros : allZero (take 12 (drop 4 s)) ≡ false → false ≡ batchHeld s
   unfolding batchHeld
-  batch-zeros e = rw (e, second-fails (leb 16 (length s) && leb (length s) maxBatch && leb (bodyCount s) maxBodies))
+  batch-zeros e = rw (e, and-false (leb 16 (length s) && leb (length s) maxBatch && leb (bodyCount s) maxBodies))
 
   -- m is the number of bodies as the code has read it
   module _ (m : ℕ) (m-is : m ≡ leAt 4 s 0) where
@@ -96,7 +95,7 @@ module _ (s : List ℕ) where
 
     pub batch-many : maxBodies < m → false ≡ batchHeld s
     unfolding batchHeld
-    batch-many h = rw (← count-is, lt-leb m maxBodies h, second-fails (leb 16 (length s) && leb (length s) maxBatch))
+    batch-many h = rw (← count-is, lt-leb m maxBodies h, and-false (leb 16 (length s) && leb (length s) maxBatch))
 
     pub batch-room : length s < bodiesAt m → false ≡ batchHeld s
     unfolding batchHeld
@@ -104,7 +103,7 @@ module _ (s : List ℕ) where
         rw (
           ← count-is,
           lt-leb (bodiesAt m) (length s) h,
-          second-fails (leb 16 (length s) && leb (length s) maxBatch && leb m maxBodies && allZero (take 12 (drop 4 s))),
+          and-false (leb 16 (length s) && leb (length s) maxBatch && leb m maxBodies && allZero (take 12 (drop 4 s))),
         )
 
     -- the head holds, and the lines decide
@@ -197,7 +196,7 @@ abbrev bodyIn : List ℕ → List ℕ → Body
 bodyIn x s = record { kind = getD x 0 0; flags = leAt 2 x 2; payload = take (lineLength x) (drop (leAt 4 x 4) s) }
 
 -- bodies end where the batch does, so none begins behind it
-begins-inside : (n at : ℕ) (xs : List ℕ) (end : ℕ) → linesHeld n at xs end ≡ true → at ≤ end
+pub begins-inside : (n at : ℕ) (xs : List ℕ) (end : ℕ) → linesHeld n at xs end ≡ true → at ≤ end
 unfolding linesHeld
 begins-inside zero at xs end e = omega (arith, eqb-true at end e)
 begins-inside (suc n) at xs end e =

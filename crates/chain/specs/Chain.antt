@@ -17,6 +17,17 @@ unfoldable pub All : {X : Type 0} → (X → Type 0) → List X → Type 0
 All P [] = Unit {0}
 All P (x ∷ xs) = P x × All P xs
 
+pub all-append : {X : Type 0} (P : X → Type 0) (xs ys : List X) → All P xs → All P ys → All P (xs ++ ys)
+unfolding All
+all-append P [] ys t u = u
+all-append P (x ∷ xs) ys t u = (t .0, all-append P xs ys (t .1) u)
+
+-- and another that follows from it
+pub all-map : {X : Type 0} (P Q : X → Type 0) → ((x : X) → P x → Q x) → (xs : List X) → All P xs → All Q xs
+unfolding All
+all-map P Q f [] t = tt
+all-map P Q f (x ∷ xs) t = (f x (t .0), all-map P Q f xs (t .1))
+
 -- how a link is read: what stands at the front of some bytes, how many of them it takes, and what the next one is read with
 pub record Reader (S L : Type 0) : Type 0 where
   pub linkAt : S → List ℕ → Option L

@@ -8,7 +8,7 @@ use mathlib.Core.List.{List, [], _∷_, _++_, map, map-append, append-assoc, app
 use native.Mathlib.Omega.{arith}
 use lib.ListN.{length, length-map}
 use Rattle.answers.specs.Answer.{Answer, Accepted, Refusal}
-use Rattle.chain.specs.Chain.{All}
+use Rattle.chain.specs.Chain.{All, all-map}
 use Rattle.segment.specs.Header.{Link, size}
 use Rattle.segment.specs.Written.{linkOf}
 use Rattle.manifest.specs.Opening.{opened}
@@ -130,9 +130,7 @@ has-more ls ms ts b h =
     }
 
 all-more : (ls ms : List Link) (ts : ℕ) (bs : List Body) → All (Has ls ts) bs → All (Has (ls ++ ms) ts) bs
-unfolding All
-all-more ls ms ts [] t = tt
-all-more ls ms ts (b ∷ bs) t = (has-more ls ms ts b (t .0), all-more ls ms ts bs (t .1))
+all-more ls ms ts = all-map (Has ls ts) (Has (ls ++ ms) ts) (has-more ls ms ts)
 
 has-bodies : (xs : List Link) (at id ts : ℕ) (bs : List Body) → All (Has (xs ++ bodyLinks at id ts bs) ts) bs
 unfolding All bodyLinks linkOf

@@ -2,7 +2,7 @@
 -- Assumes nothing.
 use Prim.Native.Nat.{ℕ, suc, _+_, _-_, _*_, _≤_, _<_}
 use mathlib.Core.Path.{_≡_, refl, sym, ap, _∙_}
-use mathlib.Core.Bool.{Bool, true, false, _&&_}
+use mathlib.Core.Bool.{Bool, true, false, _&&_, and-false}
 use mathlib.Core.List.{List}
 use native.Mathlib.Numerals.{add-one}
 use native.Mathlib.Omega.{arith}
@@ -12,7 +12,6 @@ use borrow.Author.Tests.{ne-eqb, lt-leb, le-leb}
 use Rattle.octets.specs.Over.{over, over-none, over-front, over-at}
 use Rattle.octets.specs.Round.{round64}
 use Rattle.octets.specs.Zero.{sameBytes, same-length}
-use Rattle.segment.specs.Tests.{second-fails}
 use Rattle.segment.specs.Step.{wholeAt}
 use Rattle.manifest.specs.Sized.{recordBy, statesBy, length-statesBy, statesBy-more}
 use Rattle.manifest.specs.Payload.{entrySize, statesIn, payloadLength}
@@ -87,7 +86,7 @@ module _ (f os : List ℕ) (at len id : ℕ) where
 
   pub too-many : (kind : ℕ) → 1024 < length os → false ≡ confirmedAt f os at len kind id
   unfolding confirmedAt
-  too-many kind h = rw (lt-leb (length os) 1024 h, second-fails)
+  too-many kind h = rw (lt-leb (length os) 1024 h, and-false)
 
   payload-length : at + (64 + len) ≤ length f → length (payloadIn f at len) ≡ len
   payload-length h = length-take-le len (drop (at + 64) f) (omega (arith, length-drop (at + 64) f))
@@ -98,15 +97,15 @@ module _ (f os : List ℕ) (at len id : ℕ) where
   other-length kind h t n =
       let a = payload-length h in
       let b = length-payloadAt f os (statesOf f os at len) at id t in
-      rw (same-length (payloadIn f at len) (payloadAt f os (statesOf f os at len) at id) (λ e. n (sym a ∙ e ∙ b)), second-fails)
+      rw (same-length (payloadIn f at len) (payloadAt f os (statesOf f os at len) at id) (λ e. n (sym a ∙ e ∙ b)), and-false)
 
   pub not-held : statesHeldAt f os (statesOf f os at len) ≡ false → false ≡ confirmedAt f os at len 5 id
   unfolding confirmedAt
-  not-held h = rw (h, second-fails)
+  not-held h = rw (h, and-false)
 
   pub not-whole : wholeAt f at len ≡ false → false ≡ confirmedAt f os at len 5 id
   unfolding confirmedAt
-  not-whole h = rw (h, second-fails)
+  not-whole h = rw (h, and-false)
 
   -- the payload is compared with the one written anew
   pub by-payload : (r : Bool) → length os ≤ 1024 → statesHeldAt f os (statesOf f os at len) ≡ true → wholeAt f at len ≡ true

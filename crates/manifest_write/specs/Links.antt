@@ -9,7 +9,7 @@ use lib.ListN.{length, take, drop, getD, length-drop, length-map}
 use lib.Seq.{drop-drop, take-add, length-take-le, getD-drop}
 use Rattle.le.specs.Le.{leAt, leBytes, Bytes}
 use Rattle.le.specs.Laws.{bytes-drop, bytes-take, leBytes-leOf}
-use Rattle.chain.specs.Chain.{All, walk}
+use Rattle.chain.specs.Chain.{All, all-map, walk}
 use Rattle.chain.specs.Walk.{walk-cons}
 use Rattle.segment.specs.Header.{Link, State, reader, linkAt, size, after}
 use Rattle.segment.specs.Laws.{segment-format, linkFront, Lies, lies, size-least}
@@ -102,9 +102,7 @@ lying-inside f (l ∷ ls) h (suc i) k = lying-inside f ls (h .1) i (omega arith)
 
 -- an entry copied from the file is that of the link
 all-entries : (f : List ℕ) (ls : List Link) → Bytes f → All (Lying f) ls → All (λ l. (s : ℕ) → entryAt f (l .offset) s ≡ entryBytes l s) ls
-unfolding All
-all-entries f [] t h = tt
-all-entries f (l ∷ ls) t h = (λ s. link-entry f (h .0 .state) (l .offset) l s t (h .0 .at-is) (h .0 .reads), all-entries f ls t (h .1))
+all-entries f ls t h = all-map (Lying f) _ (λ l y s. link-entry f (y .state) (l .offset) l s t (y .at-is) (y .reads)) ls h
 
 pub entries-lying : (f : List ℕ) (ls : List Link) (ss : List ℕ) → Bytes f → All (Lying f) ls → entriesAt f (offsetsOf ls) ss ≡ entries ls ss
 entries-lying f ls ss t h = entriesOf-same (entryAt f) entryBytes (λ l. l .offset) ls ss (all-entries f ls t h)

@@ -87,7 +87,8 @@ over-at s at xs h =
 
 -- ---- two places that do not touch
 
-drop-take : (k c : ℕ) (b : List ℕ) → drop k (take c b) ≡ take (c - k) (drop k b)
+-- a front less a part at its start
+pub drop-take : (k c : ℕ) (b : List ℕ) → drop k (take c b) ≡ take (c - k) (drop k b)
 drop-take zero c b = let e : c - 0 ≡ c = omega arith in rw e
 drop-take (suc k) zero b =
     let e : 0 - suc k ≡ 0 = omega arith in

@@ -1,13 +1,13 @@
 -- Bytes that are all zero, and lists that are equal, as tests; and the laws of tests that gather bytes by `or`.
 -- Assumes nothing.
-use Prim.Native.Nat.{ℕ, zero, suc, _+_, _*_, _≤_, _<_}
-use mathlib.Core.Path.{_≡_, refl, sym, ap, _∙_}
-use mathlib.Core.Bool.{Bool, true, false, _&&_}
+use Prim.Native.Nat.{ℕ, zero, suc, _+_, _-_, _*_, _≤_, _<_}
+use mathlib.Core.Path.{_≡_, refl, ap, _∙_}
+use mathlib.Core.Bool.{Bool, true, false, _&&_, and-assoc, and-true, false≢true}
 use mathlib.Core.List.{List, [], _∷_, _++_}
 use native.Mathlib.Omega.{arith}
 use lib.Bits.{bitOr, bitXor, bitAnd, or-zero-l, or-zero-r, or-add-and, xor-add-and, and-le-l, and-le-r, xor-self}
 use lib.Dec.{eqb}
-use lib.ListN.{length, getD, drop, replicate, drop-of-length-le}
+use lib.ListN.{length, getD, take, drop, replicate, drop-of-length-le}
 use lib.Seq.{drop-cons}
 use borrow.Author.Tests.{eqb-true, eqb-false, eq-eqb, ne-eqb}
 
@@ -27,10 +27,7 @@ sameBytes (x ∷ xs) (y ∷ ys) = eqb x y && sameBytes xs ys
 
 pub and-split : (a b : Bool) → a && b ≡ true → (a ≡ true) × (b ≡ true)
 and-split true b e = (refl, e)
-and-split false b e = let z : _≡_ {A = Bool} true false = sym e in (sym z, absurd (true-false z))
-  where
-    true-false : true ≡ false → ⊥
-    true-false z = let n : _≡_ {A = ℕ} 0 1 = cc in omega arith
+and-split false b e = absurd (false≢true e)
 
 pub zeros-all : (n : ℕ) → allZero (replicate n 0) ≡ true
 unfolding allZero
@@ -43,6 +40,17 @@ all-zeros [] e = refl
 all-zeros (b ∷ bs) e =
     let p = and-split (eqb b 0) (allZero bs) e in
     rw (eqb-true b 0 (p .0)) (ap (λ (l : List ℕ). 0 ∷ l) (all-zeros bs (p .1)))
+
+-- zeros out of zeros: the first of them, and what is left behind some
+pub zeros-front : (n m : ℕ) → n ≤ m → _≡_ {A = List ℕ} (take n (replicate m 0)) (replicate n 0)
+zeros-front zero m h = refl
+zeros-front (suc n) zero h = absurd (omega arith)
+zeros-front (suc n) (suc m) h = ap (λ (x : List ℕ). 0 ∷ x) (zeros-front n m (omega arith))
+
+pub zeros-left : (n m : ℕ) → _≡_ {A = List ℕ} (drop n (replicate m 0)) (replicate (m - n) 0)
+zeros-left zero m = let e : m - 0 ≡ m = omega arith in rw e
+zeros-left (suc n) zero = let e : 0 - suc n ≡ 0 = omega arith in rw e
+zeros-left (suc n) (suc m) = let e : suc m - suc n ≡ m - n = omega arith in rw e (zeros-left n m)
 
 pub same-equal : (xs ys : List ℕ) → sameBytes xs ys ≡ true → xs ≡ ys
 unfolding sameBytes
@@ -91,10 +99,6 @@ xor-test a b = pick (eqb a b) refl
     pick true p = let e : a ≡ b = eqb-true a b p in rw (e, xor-self b)
     pick false p = ne-eqb (bitXor a b) 0 (λ e. eqb-false a b p (xor-none a b e))
 
-and-assoc : (a b c : Bool) → (a && b) && c ≡ a && (b && c)
-and-assoc true b c = refl
-and-assoc false b c = refl
-
 -- one byte more is gathered, of one list and of two
 pub zero-turn : (s : List ℕ) (acc i : ℕ) → i < length s → eqb (bitOr acc (getD s i 0)) 0 && allZero (drop (suc i) s) ≡ eqb acc 0 && allZero (drop i s)
 unfolding allZero
@@ -106,10 +110,6 @@ unfolding sameBytes
 same-turn a b acc i h k =
     rw (drop-cons a i 0 h, drop-cons b i 0 k, or-test, xor-test)
     (and-assoc (eqb acc 0) (eqb (getD a i 0) (getD b i 0)) (sameBytes (drop (suc i) a) (drop (suc i) b)))
-
-and-true : (t : Bool) → t && true ≡ t
-and-true true = refl
-and-true false = refl
 
 pub zero-end : (s : List ℕ) (acc i : ℕ) → length s ≤ i → eqb acc 0 && allZero (drop i s) ≡ eqb acc 0
 unfolding allZero

@@ -1,6 +1,6 @@
 -- The test of a link by the file alone, for a link by its number and the stored offsets.
 -- Assumes nothing.
-use Prim.Native.Nat.{ℕ, zero, suc, _+_, _<_}
+use Prim.Native.Nat.{ℕ, zero, suc, _+_, _≤_, _<_}
 use mathlib.Core.Path.{_≡_, refl, sym, ap, subst, _∙_}
 use mathlib.Core.Bool.{Bool}
 use mathlib.Core.List.{List, [], _∷_}
@@ -18,19 +18,23 @@ use Rattle.manifest_check.specs.At.{confirmedAt}
 use Rattle.manifest_check.specs.Links.{before-inside, confirmed-at}
 
 -- the offsets of some first links are the first offsets
-pub first-some : (ls : List Link) (i : ℕ) → offsetsOf (take i ls) ≡ take i (offsetsOf ls)
+first-some : (ls : List Link) (i : ℕ) → offsetsOf (take i ls) ≡ take i (offsetsOf ls)
 first-some ls zero = refl
 first-some [] (suc i) = refl
 first-some (l ∷ ls) (suc i) = ap (λ (xs : List ℕ). l .offset ∷ xs) (first-some ls i)
 
+-- and so are those of the first links of a chain whose offsets are stored
+pub front-offsets : (f offsets : List ℕ) (n i : ℕ) → Stored f offsets n → i ≤ n → offsetsOf (take i (chain f)) ≡ take i offsets
+front-offsets f offsets n i s h =
+    let few = stored-few f offsets n s in
+    ap offsetsOf (sym (take-take i most (chain f) (omega arith)))
+    ∙ first-some (take most (chain f)) i
+    ∙ ap (take i) (sym (s .stored))
+    ∙ take-take i n offsets h
+
 module _ (f offsets : List ℕ) (n i p : ℕ) (s : Stored f offsets n) (h : i < n) (m : Numbered f p i (linkNo f i)) where
   offsets-are : offsetsOf (take i (chain f)) ≡ take i offsets
-  offsets-are =
-      let few = stored-few f offsets n s in
-      ap offsetsOf (sym (take-take i most (chain f) (omega arith)))
-      ∙ first-some (take most (chain f)) i
-      ∙ ap (take i) (sym (s .stored))
-      ∙ take-take i n offsets (omega arith)
+  offsets-are = front-offsets f offsets n i s (omega arith)
 
   pub candidate-inside : Inside f (take i offsets)
   candidate-inside = subst (Inside f) offsets-are (before-inside f p (take i (chain f)) (linkNo f i) (drop (i + 1) (chain f)) (m .placed))

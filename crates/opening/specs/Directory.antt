@@ -11,7 +11,7 @@ use native.Mathlib.Nat.{lt-of-not-le}
 use native.Mathlib.Decide.{decLe}
 use lib.Dec.{eqb, leb}
 use lib.ListN.{length, take, drop, getD, length-map}
-use lib.Seq.{getD-take, getD-drop, take-take, take-suc}
+use lib.Seq.{getD-take, getD-drop, take-suc}
 use Rattle.octets.specs.Zero.{same-equal, and-split}
 use Rattle.le.specs.Le.{Bytes, leAt}
 use Rattle.limits.specs.Limits.{maxFile, maxEntries}
@@ -29,7 +29,7 @@ use Rattle.manifest_write.specs.Links.{lying-inside, payload-lying, chain-lying
 use Rattle.opening.specs.declared.Opened.{Opened}
 use Rattle.opening.specs.declared.Opened.the-variants.{At, NoManifest, Refused}
 use Rattle.opening.specs.Opened.{foundCase, openedCase, bounded}
-use Rattle.opening.specs.Candidate.{first-some}
+use Rattle.opening.specs.Candidate.{front-offsets}
 
 -- ---- what an answer says
 
@@ -166,7 +166,7 @@ module _ (f offsets : List ℕ) (offset count : ℕ) (t : Bytes f) (s : Indexed 
   numbers = number-of f b (m .stands .rest) l (m .stands .split)
 
   -- the manifest itself, by its number
-  manifest-numbered : Numbered f offset (length b) l
+  pub manifest-numbered : Numbered f offset (length b) l
   manifest-numbered =
       let p = link-place f b (m .stands .rest) l (m .stands .split) in
       subst (λ (x : Link). Numbered f offset (length b) x) (sym (numbers .1 .1))
@@ -182,21 +182,13 @@ module _ (f offsets : List ℕ) (offset count : ℕ) (t : Bytes f) (s : Indexed 
       (omega (arith, n .room, k), (ap (λ (j : ℕ). take j (drop (offset + 64) f)) (sym k) ∙ sym (n .payload-is), omega (arith, e, k)))
 
   -- the first offsets are those of the directory's links; and of these and the manifest
-  front-offsets : (i : ℕ) → i ≤ length (take most (chain f)) → offsetsOf (take i (chain f)) ≡ take i offsets
-  front-offsets i h =
-      let n = stored-few f offsets _ s .1 in
-      ap offsetsOf (sym (take-take i most (chain f) (omega arith)))
-      ∙ first-some (take most (chain f)) i
-      ∙ ap (take i) (sym (s .stored))
-      ∙ take-take i (length (take most (chain f))) offsets h
-
   manifest-stored : count < length (take most (chain f))
   manifest-stored = let q = few in stored-has f offsets _ s count (omega (arith, m .count-is, numbers .0)) (omega arith)
 
   pub before-offsets : offsetsOf (m .found .before) ≡ take count offsets
   before-offsets =
       let h = manifest-stored in
-      ap offsetsOf (numbers .1 .0 ∙ ap (λ (k : ℕ). take k (chain f)) (m .count-is)) ∙ front-offsets count (omega arith)
+      ap offsetsOf (numbers .1 .0 ∙ ap (λ (k : ℕ). take k (chain f)) (m .count-is)) ∙ front-offsets f offsets _ count s (omega arith)
 
   pub kept-offsets : offsetsOf (m .found .before ++ m .found .link ∷ []) ≡ take (count + 1) offsets
   kept-offsets =
@@ -206,7 +198,7 @@ module _ (f offsets : List ℕ) (offset count : ℕ) (t : Bytes f) (s : Indexed 
       ap (λ (k : ℕ). take k (chain f)) n
       ∙ take-suc (chain f) (length (m .found .before)) noLink (numbers .0)
       ∙ ap₂ (λ (ls : List Link) (x : Link). ls ++ x ∷ []) (sym (numbers .1 .0)) (sym (numbers .1 .1)) in
-      ap offsetsOf (sym all ∙ ap (λ (k : ℕ). take (k + 1) (chain f)) (m .count-is)) ∙ front-offsets (count + 1) (omega arith)
+      ap offsetsOf (sym all ∙ ap (λ (k : ℕ). take (k + 1) (chain f)) (m .count-is)) ∙ front-offsets f offsets _ (count + 1) s (omega arith)
 
   pub manifest-room : (offset + 64 ≤ length f) × (count ≤ maxEntries)
   manifest-room = let r = manifest-numbered .room in let q = few in (omega arith, q)

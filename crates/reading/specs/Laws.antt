@@ -3,7 +3,7 @@
 -- Assumes nothing.
 use Prim.Native.Nat.{ℕ, _<_}
 use mathlib.Core.Path.{_≡_, refl, sym, ap, subst, _∙_}
-use mathlib.Core.Bool.{Bool, true, false}
+use mathlib.Core.Bool.{Bool, true, false, true≢false}
 use mathlib.Core.Option.{Option, none, some}
 use mathlib.Core.List.{List, [], _∷_, _++_}
 use native.Mathlib.Omega.{arith}
@@ -41,9 +41,6 @@ pub record Good (l : Link) : Type 0 where
   pub checked : checkOf (l .payload) ≡ 0
   pub blocks : (i : ℕ) → i < blockCount (l .payload) → (k : ℕ) × BlockGood (lineAt (l .payload) i) (drop (lineAt (l .payload) i .offset) (l .payload)) k
 
-unequal : true ≡ false → ⊥
-unequal e = let z : _≡_ {A = ℕ} 0 1 = cc in omega arith
-
 -- a segment that is not refused
 module _ (id : ℕ) (l : Link) (accepted : (n : ℕ) → lookIn id l ≡ Bad n → ⊥) where
   sound-both : (whole l ≡ true) × (checkOf (l .payload) ≡ 0)
@@ -52,7 +49,7 @@ module _ (id : ℕ) (l : Link) (accepted : (n : ℕ) → lookIn id l ≡ Bad n �
       pick : (t u : Bool) → whole l ≡ t → eqb (checkOf (l .payload)) 0 ≡ u → (whole l ≡ true) × (checkOf (l .payload) ≡ 0)
       pick false u p q = absurd (accepted 4 (look-torn id l p))
       pick true true p q = (p, eqb-true (checkOf (l .payload)) 0 q)
-      pick true false p q = absurd (accepted (checkOf (l .payload)) (look-bad id l p (λ e. unequal (sym (eq-eqb (checkOf (l .payload)) 0 e) ∙ q))))
+      pick true false p q = absurd (accepted (checkOf (l .payload)) (look-bad id l p (λ e. true≢false (sym (eq-eqb (checkOf (l .payload)) 0 e) ∙ q))))
 
   is-good : Good l
   unfolding whole lineAt

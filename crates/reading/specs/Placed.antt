@@ -12,7 +12,7 @@ use lib.Dec.{eqb}
 use lib.ListN.{length, take, drop, getD, length-drop}
 use lib.Seq.{drop-drop}
 use Rattle.limits.specs.Limits.{maxFile}
-use Rattle.chain.specs.Chain.{All}
+use Rattle.chain.specs.Chain.{All, all-append, all-map}
 use Rattle.chain.specs.Last.{Found, openOf, Stands, last-stands}
 use Rattle.segment.specs.Header.{Link, whole}
 use Rattle.segment.specs.Laws.{linkFront, Lies, lies}
@@ -63,15 +63,10 @@ module _ (P : Link → Type 0) where
   all-vectors [] t = tt
   all-vectors (l ∷ ls) t = all-cond (eqb (l .kind) vecKind) l (vectorsOf ls) (t .0) (all-vectors ls (t .1))
 
-  all-append : (ls ms : List Link) → All P ls → All P ms → All P (ls ++ ms)
-  unfolding All
-  all-append [] ms t u = u
-  all-append (l ∷ ls) ms t u = (t .0, all-append ls ms (t .1) u)
-
   all-reverse : (ls : List Link) → All P ls → All P (reverse ls)
   unfolding All
   all-reverse [] t = tt
-  all-reverse (l ∷ ls) t = rw (reverse-cons l ls) (all-append (reverse ls) (l ∷ []) (all-reverse ls (t .1)) (t .0, tt))
+  all-reverse (l ∷ ls) t = rw (reverse-cons l ls) (all-append P (reverse ls) (l ∷ []) (all-reverse ls (t .1)) (t .0, tt))
 
   all-at : (ls : List Link) (l : Link) (ms : List Link) → All P (ls ++ l ∷ ms) → P l
   unfolding All
@@ -89,16 +84,11 @@ module _ (P : Link → Type 0) where
 
 -- ---- the links that opening finds
 
-all-lying : (f : List ℕ) (ls : List Link) → All (Lying f) ls → All (InFile f) ls
-unfolding All
-all-lying f [] t = tt
-all-lying f (l ∷ ls) t = (lying-in f l (t .0), all-lying f ls (t .1))
-
 pub before-in : (f : List ℕ) (r : Found Link) → opened f ≡ some r → All (InFile f) (r .before)
 unfolding opened openOf
 before-in f r e =
     let s : Stands confirmed (chain f) r = last-stands confirmed (chain f) r e in
-    all-lying f (r .before) (chain-lying f (r .before) (r .link ∷ s .rest) (s .split))
+    all-map (Lying f) (InFile f) (lying-in f) (r .before) (chain-lying f (r .before) (r .link ∷ s .rest) (s .split))
 
 pub live-in : (f : List ℕ) (r : Found Link) → opened f ≡ some r → All (InFile f) (live r)
 unfolding live

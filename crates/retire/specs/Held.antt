@@ -2,17 +2,13 @@
 -- Assumes nothing.
 use Prim.Native.Nat.{ℕ}
 use mathlib.Core.Path.{_≡_, refl, sym, ap, _∙_}
-use mathlib.Core.Bool.{Bool, true, false, not, _&&_, _||_, or-assoc, or-false}
+use mathlib.Core.Bool.{Bool, true, false, not, _&&_, _||_, or-assoc, or-false, true≢false}
 use mathlib.Core.List.{List, [], _∷_, _++_}
-use native.Mathlib.Omega.{arith}
 use lib.Dec.{eqb}
 use borrow.Author.Tests.{eq-eqb, ne-eqb, eqb-true, eqb-false}
 use Rattle.octets.specs.Zero.{and-split}
 use Rattle.batch.specs.Form.{member}
 use Rattle.retire.specs.Marks.{retirableBy, retireHeldBy}
-
-pub unequal : true ≡ false → ⊥
-unequal e = let z : _≡_ {A = ℕ} 0 1 = cc in omega arith
 
 -- ---- a number in a list
 
@@ -73,5 +69,5 @@ module _ (ns ks ss : List ℕ) where
   held-fails xs ys e = pick (retireHeldBy ns ks ss (xs ++ ys)) refl
     where
       pick : (t : Bool) → retireHeldBy ns ks ss (xs ++ ys) ≡ t → t ≡ false
-      pick true h = absurd (unequal (sym (held-front xs ys h) ∙ e))
+      pick true h = absurd (true≢false (sym (held-front xs ys h) ∙ e))
       pick false h = refl

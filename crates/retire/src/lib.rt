@@ -2,24 +2,8 @@
 ghost use mathlib.Core.Path.{_≡_};
 ghost use mathlib.Core.Bool.{true};
 ghost use lib.ListN.{length};
-ghost use Rattle.vecseg.specs.Find.{indexOf};
-ghost use Rattle.vec_find.specs.Found.{indexAnswer};
 ghost use Rattle.retire.specs.Marks.{retireHeldBy, retiredBy, Rises};
 use vec_find::Index;
-
-// Where an id stands among the entries' ids.
-fn index_of(entry_ids: &[u64], id: u64) -> Index
-    ensures { λ r. ⌜ r ≡ indexAnswer (indexOf id (now («entry_ids» .entry))) ⌝ }
-{
-    let mut i: usize = 0;
-    while i < entry_ids.len() {
-        if entry_ids[i] == id {
-            return Index::Place(i);
-        }
-        i += 1;
-    }
-    Index::Nowhere
-}
 
 // Marks the entries whose ids are in the list as retired, in the list's order. False where an id is not there, is of type 0x05, is retired already, or
 // stands in the list twice; the states are then not to be used. Each id marks an entry that was live, so the loop ends after as many turns as there
@@ -32,7 +16,7 @@ pub fn mark(entry_ids: &[u64], kinds: &[u8], states: &mut [u8], ids: &[u64]) -> 
 {
     let mut j: usize = 0;
     while j < ids.len() {
-        let place = index_of(entry_ids, ids[j]);
+        let place = vec_find::index_of(entry_ids, entry_ids.len(), ids[j]);
         match place {
             Index::Nowhere => return false,
             Index::Place(i) => {

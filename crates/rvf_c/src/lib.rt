@@ -2,5 +2,6 @@
 mod by_id;
 mod files;
 mod leaves;
+mod lists;
 mod payloads;
 mod writing;

@@ -8,8 +8,9 @@ use mathlib.Core.Path.{_≡_, sym, ap, _∙_}
 use Prim.Native.Nat.{ℕ, _+_, _-_, _≤_, _<_}
 use native.Mathlib.Omega.{arith}
 use lib.ListN.{length, take, drop, getD, length-drop}
-use lib.Seq.{take-take, take-add, drop-at, drop-drop, length-take-le, getD-take}
+use lib.Seq.{take-take, drop-drop, length-take-le, getD-take}
 use borrow.Author.Tests.{lt-leb, le-leb}
+use Rattle.octets.specs.Over.{drop-take}
 use Rattle.octets.specs.Zero.{sameBytes, allZero}
 use Rattle.octets.specs.Round.{round64, round64-ge}
 use Rattle.le.specs.Le.{leAt}
@@ -42,10 +43,6 @@ wholeAt f at len = sameBytes (hashIn (drop at f)) (contentHash (take len (drop (
 
 -- ---- the ways out
 
--- a part of a front, to its end
-drop-take : (k m : ℕ) (b : List ℕ) → k ≤ length b → drop k (take (k + m) b) ≡ take m (drop k b)
-drop-take k m b h = rw (take-add k m b) (drop-at (take k b) (take m (drop k b)) k (length-take-le k b h))
-
 -- bytes that have room for the link that their header says: the tests that are left
 link-tests : (st : State) (s : List ℕ) (n : ℕ) → lengthIn (take 64 s) ≡ n → 64 + round64 n ≤ length s
     → linkAt st s ≡ cond (headSound (st .least) (take 64 s) && allZero (take (round64 n - n) (drop (64 + n) s))) (some (linkFront (st .at) s)) none
@@ -53,9 +50,9 @@ unfolding framed read sizeAt sound
 link-tests st s n e h =
     let r : n ≤ round64 n = round64-ge n in
     let g : lengthIn s ≡ n = sym (number-front 8 0x10 s (omega arith)) ∙ e in
-    let q : 64 + round64 n ≡ 64 + n + (round64 n - n) = omega arith in
+    let q : 64 + round64 n - (64 + n) ≡ round64 n - n = omega arith in
     let p : drop (64 + n) (take (64 + round64 n) s) ≡ take (round64 n - n) (drop (64 + n) s) =
-    ap (λ (k : ℕ). drop (64 + n) (take k s)) q ∙ drop-take (64 + n) (round64 n - n) s (omega arith) in
+    drop-take (64 + n) (64 + round64 n) s ∙ ap (λ (k : ℕ). take k (drop (64 + n) s)) q in
     rw (
       e,
       le-leb 64 (length s) (omega arith),

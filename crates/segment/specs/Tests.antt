@@ -1,7 +1,7 @@
 -- A list of tests, each of which must hold.
 -- Assumes nothing.
 use mathlib.Core.Path.{_≡_, refl}
-use mathlib.Core.Bool.{Bool, true, false, _&&_}
+use mathlib.Core.Bool.{Bool, true, false, _&&_, and-false}
 use mathlib.Core.List.{List, [], _∷_}
 use Prim.Native.Nat.{ℕ, zero, suc}
 use lib.ListN.{getD}
@@ -11,10 +11,6 @@ use Rattle.octets.specs.Zero.{and-split}
 unfoldable pub all : List Bool → Bool
 all [] = true
 all (t ∷ ts) = t && all ts
-
-pub second-fails : (a : Bool) → a && false ≡ false
-second-fails true = refl
-second-fails false = refl
 
 -- where all hold each holds
 pub all-at : (ts : List Bool) (i : ℕ) → all ts ≡ true → getD ts i true ≡ true
@@ -28,4 +24,4 @@ pub all-fails : (ts : List Bool) (i : ℕ) → getD ts i true ≡ false → all 
 unfolding all
 all-fails [] i e = e
 all-fails (t ∷ ts) zero e = rw e
-all-fails (t ∷ ts) (suc i) e = rw (all-fails ts i e) (second-fails t)
+all-fails (t ∷ ts) (suc i) e = rw (all-fails ts i e) (and-false t)

@@ -1,7 +1,7 @@
 -- The ways out of the tests on a header, each with its law.
 -- Assumes nothing.
 use mathlib.Core.Path.{_≡_, refl, sym, _∙_}
-use mathlib.Core.Bool.{Bool, true, false, _&&_}
+use mathlib.Core.Bool.{Bool, true, false, and-true}
 use mathlib.Core.List.{List}
 use Prim.Native.Nat.{ℕ, _+_, _-_, _≤_, _<_}
 use native.Mathlib.Omega.{arith}
@@ -15,10 +15,6 @@ use Rattle.crc32c.specs.Crc.{crcOf}
 use Rattle.segment.specs.Tests.{all, all-fails}
 use Rattle.segment.specs.Header.{magic, typeHeld, flagsHeld, headSound, headTests, kindIn, flagsIn, idIn, contentHash}
 use Rattle.segment.specs.Step.{leastId}
-
-and-true : (t : Bool) → t && true ≡ t
-and-true true = refl
-and-true false = refl
 
 -- ---- types
 

@@ -26,7 +26,7 @@ pub enum Found {
 }
 
 // An id among the first n of a list.
-fn index_of(ids: &[u64], n: usize, id: u64) -> Index
+pub fn index_of(ids: &[u64], n: usize, id: u64) -> Index
     requires { ⌜ n ≤ length (now ids) ⌝ }
     ensures { λ r. ⌜ r ≡ indexAnswer (indexOf id (take n (now (ids .entry)))) ⌝ }
 {

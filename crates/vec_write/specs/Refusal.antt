@@ -4,7 +4,6 @@ use Prim.Native.Nat.{ℕ, _*_, _≤_, _<_}
 use mathlib.Core.Path.{_≡_, refl, sym, _∙_}
 use mathlib.Core.Bool.{Bool, true, false, cond, _&&_, _||_}
 use mathlib.Core.List.{List}
-use native.Mathlib.Nat.{mul-le-mul}
 use native.Mathlib.Omega.{arith}
 use lib.Dec.{eqb, leb, ltb}
 use lib.ListN.{length}
@@ -16,12 +15,6 @@ use Rattle.idmap.specs.Accepted.{good}
 use Rattle.idmap_write.specs.Ways as map
 use Rattle.vecseg.specs.Payload.{width}
 use Rattle.vecseg.specs.Writer.{vecBad}
-
--- how many bytes the columns can take, so that the products fit
-pub few-cells : (n dim w : ℕ) → n ≤ 4096 → dim ≤ 1024 → w ≤ 4 → (n * dim ≤ 4194304) × (n * dim * w ≤ 16777216)
-few-cells n dim w hn hd hw =
-    let p : n * dim ≤ 4096 * 1024 = mul-le-mul hn hd in
-    (p, mul-le-mul p hw)
 
 -- ---- refused
 
@@ -104,7 +97,7 @@ accepted ids columns dim dtype tier encoding interval ok =
           most = good ids encoding interval q .most;
         }
 
--- a dtype that is held fits its byte, and its values take at most 4
+-- a dtype that is held fits its byte
 pub held-small : (dtype : ℕ) → 0 < width dtype → dtype < 256
 unfolding width
 held-small dtype = pick (eqb dtype 0) (eqb dtype 3) (eqb dtype 4) refl refl refl
@@ -114,12 +107,3 @@ held-small dtype = pick (eqb dtype 0) (eqb dtype 3) (eqb dtype 4) refl refl refl
     pick false true v p q r h = omega (arith, eqb-true dtype 3 q)
     pick false false true p q r h = omega (arith, eqb-true dtype 4 r)
     pick false false false p q r h = absurd (omega arith)
-
-pub width-small : (dtype : ℕ) → width dtype ≤ 4
-unfolding width
-width-small dtype = pick (eqb dtype 0) (eqb dtype 3 || eqb dtype 4)
-  where
-    pick : (t u : Bool) → cond t 4 (cond u 1 0) ≤ 4
-    pick true u = omega arith
-    pick false true = omega arith
-    pick false false = omega arith

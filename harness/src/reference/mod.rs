@@ -34,6 +34,8 @@ pub mod limits {
     pub const DIM: usize = 1_024;
     /// Longest file that the lister reads.
     pub const LISTED: usize = 65_536;
+    /// Room for the longest list: 1,027 lines of at most 97 bytes.
+    pub const LIST_ROOM: usize = 102_400;
     /// Restart interval that a writer takes when asked for 0 with delta.
     pub const DEFAULT_INTERVAL: u64 = 64;
 }

@@ -2,8 +2,8 @@
 -- Assumes nothing.
 use native.Mathlib.Omega.{arith}
 use lib.ListN.{length}
-use Rattle.vecseg.specs.LineLaws.{width-most}
-use Rattle.vec_write.specs.Refusal.{few-cells, bad-dtype, bad-low, bad-high, bad-tier, bad-many, bad-columns, bad-map}
+use Rattle.vecseg.specs.LineLaws.{width-most, columns-fit}
+use Rattle.vec_write.specs.Refusal.{bad-dtype, bad-low, bad-high, bad-tier, bad-many, bad-columns, bad-map}
 use borrow.Author.Needs.{needs}
 use Rattle.vec_write.proofs.refusal.Statement.{statement}
 use Rattle.vec_write.proofs.refusal.Tie as tie
@@ -27,10 +27,10 @@ returns-5 : tie.Need-returns-5
 returns-5 c = bad-many _ _ _ _ _ _ _ _ (c .before .before .before .before .before .width-of .ensures) (c .before .before .before .before .if1 .left) (omega arith) (omega arith) (omega arith) (omega arith)
 
 mul-if6 : tie.Need-mul-if6
-mul-if6 c = omega (arith, few-cells (length (c .before .before .before .before .before .before .before .before .args .ids .now)) (c .before .before .before .before .before .before .before .before .args .dim) (c .before .before .before .before .before .width-of .result) (omega arith) (omega arith) (omega (arith, c .before .before .before .before .before .width-of .ensures, width-most (c .before .before .before .before .before .before .before .before .args .dtype))) .0)
+mul-if6 c = omega (arith, columns-fit (length (c .before .before .before .before .before .before .before .before .args .ids .now)) (c .before .before .before .before .before .before .before .before .args .dim) (c .before .before .before .before .before .width-of .result) (omega arith) (omega arith) (omega (arith, c .before .before .before .before .before .width-of .ensures, width-most (c .before .before .before .before .before .before .before .before .args .dtype))) .0)
 
 mul-if6-2 : tie.Need-mul-if6-2
-mul-if6-2 c = omega (arith, few-cells (length (c .before .before .before .before .before .before .before .before .args .ids .now)) (c .before .before .before .before .before .before .before .before .args .dim) (c .before .before .before .before .before .width-of .result) (omega arith) (omega arith) (omega (arith, c .before .before .before .before .before .width-of .ensures, width-most (c .before .before .before .before .before .before .before .before .args .dtype))) .1)
+mul-if6-2 c = omega (arith, columns-fit (length (c .before .before .before .before .before .before .before .before .args .ids .now)) (c .before .before .before .before .before .before .before .before .args .dim) (c .before .before .before .before .before .width-of .result) (omega arith) (omega arith) (omega (arith, c .before .before .before .before .before .width-of .ensures, width-most (c .before .before .before .before .before .before .before .before .args .dtype))) .1)
 
 returns-6 : tie.Need-returns-6
 returns-6 c = bad-columns _ _ _ _ _ _ _ _ (c .before .before .before .before .before .before .width-of .ensures) (c .before .before .before .before .before .if1 .left) (omega arith) (omega arith) (omega arith) (c .if6 .taken)

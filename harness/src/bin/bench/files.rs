@@ -87,6 +87,23 @@ fn payload_line(name: &str, file: &[u8], id: u64) {
     line(name, Unit::Ns(1), || call(&Library), || call(&Reference));
 }
 
+/// The lister's text of a file within its limit, with as many entries as fit.
+#[cfg(feature = "list")]
+fn list_line() {
+    let mut file = Builder::new(0, 0);
+    for _ in 0..540 {
+        file.body(7, 0, 1, b"");
+    }
+    file.manifest(0, 1, &[]);
+    assert!(file.bytes.len() <= limits::LISTED);
+    let call = |calls: &dyn Calls| {
+        let (mut buffer, mut out) = ([0; 32_768], [0]);
+        assert_eq!(calls.list(black_box(&file.bytes), &mut buffer, &mut out), 0);
+        black_box((buffer, out));
+    };
+    line("list_540_entries", Unit::Ns(1), || call(&Library), || call(&Reference));
+}
+
 fn opening() {
     let clean = thousand(limits::FILE);
     open_line("open_16MiB_clean", &clean, 0, 1);
@@ -199,4 +216,6 @@ pub fn lines() {
     opening();
     #[cfg(feature = "reading")]
     reading();
+    #[cfg(feature = "list")]
+    list_line();
 }

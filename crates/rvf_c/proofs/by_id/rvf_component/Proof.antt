@@ -4,12 +4,13 @@ use mathlib.Core.Path.{_≡_, sym, ap, _∙_}
 use mathlib.Core.List.{[]}
 use Rattle.answers.specs.Out.{out-refused, out-accepted}
 use Rattle.file_vector.specs.Component.{bitsAnswer, bits-same}
+use lib.Dec.{lit<}
 use borrow.Author.Needs.{needs}
 use Rattle.rvf_c.proofs.by_id.rvf_component.Statement.{statement}
 use Rattle.rvf_c.proofs.by_id.rvf_component.Tie as tie
 
 component-bits-requires : tie.Need-component-bits-requires
-component-bits-requires c κs = search needs
+component-bits-requires c κs = tt
 
 enum-known-b : tie.Need-enum-known-b
 enum-known-b c = search needs
@@ -21,13 +22,13 @@ cast-out : tie.Need-cast-out
 cast-out c = search needs
 
 element-write-out : tie.Need-element-write-out
-element-write-out c = search needs
+element-write-out c = lit< tt
 
 cast-out-2 : tie.Need-cast-out-2
 cast-out-2 c = search needs
 
 element-write-out-2 : tie.Need-element-write-out-2
-element-write-out-2 c = search needs
+element-write-out-2 c = lit< tt
 
 returns : tie.Need-returns
 unfolding bitsAnswer

@@ -4,12 +4,13 @@ use mathlib.Core.Path.{_≡_, sym, ap, _∙_}
 use mathlib.Core.List.{[]}
 use Rattle.answers.specs.Out.{out-refused, out-accepted}
 use Rattle.file_payload.specs.Place.{placeAnswer, place-same}
+use lib.Dec.{lit<}
 use borrow.Author.Needs.{needs}
 use Rattle.rvf_c.proofs.by_id.rvf_payload.Statement.{statement}
 use Rattle.rvf_c.proofs.by_id.rvf_payload.Tie as tie
 
 payload-place-requires : tie.Need-payload-place-requires
-payload-place-requires c κs = search needs
+payload-place-requires c κs = tt
 
 enum-known-p : tie.Need-enum-known-p
 enum-known-p c = search needs
@@ -18,10 +19,10 @@ enum-known-p-2 : tie.Need-enum-known-p-2
 enum-known-p-2 c = search needs
 
 element-write-out : tie.Need-element-write-out
-element-write-out c = search needs
+element-write-out c = lit< tt
 
 element-write-out-2 : tie.Need-element-write-out-2
-element-write-out-2 c = search needs
+element-write-out-2 c = lit< tt
 
 returns : tie.Need-returns
 unfolding placeAnswer

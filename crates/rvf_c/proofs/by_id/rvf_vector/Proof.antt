@@ -4,12 +4,13 @@ use mathlib.Core.Path.{_≡_, sym, ap, _∙_}
 use mathlib.Core.List.{[]}
 use Rattle.answers.specs.Out.{out-refused, out-accepted}
 use Rattle.vec_get.specs.Vector.{vectorAnswer}
+use lib.Dec.{lit<}
 use borrow.Author.Needs.{needs}
 use Rattle.rvf_c.proofs.by_id.rvf_vector.Statement.{statement}
 use Rattle.rvf_c.proofs.by_id.rvf_vector.Tie as tie
 
 vector-requires : tie.Need-vector-requires
-vector-requires c κs = search needs
+vector-requires c κs = tt
 
 enum-known-v : tie.Need-enum-known-v
 enum-known-v c = search needs
@@ -18,16 +19,16 @@ enum-known-v-2 : tie.Need-enum-known-v-2
 enum-known-v-2 c = search needs
 
 element-write-out : tie.Need-element-write-out
-element-write-out c = search needs
+element-write-out c = lit< tt
 
 cast-out : tie.Need-cast-out
 cast-out c = search needs
 
 element-write-out-2 : tie.Need-element-write-out-2
-element-write-out-2 c = search needs
+element-write-out-2 c = lit< tt
 
 element-write-out-3 : tie.Need-element-write-out-3
-element-write-out-3 c = search needs
+element-write-out-3 c = lit< tt
 
 same-length : tie.Need-same-length
 same-length c = search needs

@@ -4,12 +4,13 @@ use mathlib.Core.Path.{_≡_, sym, ap, _∙_}
 use mathlib.Core.List.{[]}
 use Rattle.answers.specs.Out.{out-refused, out-accepted}
 use Rattle.opening.specs.Entry.{entryCaseAnswer, entry-same}
+use lib.Dec.{lit<}
 use borrow.Author.Needs.{needs}
 use Rattle.rvf_c.proofs.files.rvf_entry.Statement.{statement}
 use Rattle.rvf_c.proofs.files.rvf_entry.Tie as tie
 
 entry-requires : tie.Need-entry-requires
-entry-requires c κs = search needs
+entry-requires c κs = tt
 
 enum-known-e : tie.Need-enum-known-e
 enum-known-e c = search needs
@@ -21,37 +22,37 @@ enum-known-e-2 : tie.Need-enum-known-e-2
 enum-known-e-2 c = search needs
 
 element-write-out : tie.Need-element-write-out
-element-write-out c = search needs
+element-write-out c = lit< tt
 
 element-write-out-2 : tie.Need-element-write-out-2
-element-write-out-2 c = search needs
+element-write-out-2 c = lit< tt
 
 element-write-out-3 : tie.Need-element-write-out-3
-element-write-out-3 c = search needs
+element-write-out-3 c = lit< tt
 
 element-write-out-4 : tie.Need-element-write-out-4
-element-write-out-4 c = search needs
+element-write-out-4 c = lit< tt
 
 element-write-out-5 : tie.Need-element-write-out-5
-element-write-out-5 c = search needs
+element-write-out-5 c = lit< tt
 
 cast-out : tie.Need-cast-out
 cast-out c = search needs
 
 element-write-out-6 : tie.Need-element-write-out-6
-element-write-out-6 c = search needs
+element-write-out-6 c = lit< tt
 
 cast-out-2 : tie.Need-cast-out-2
 cast-out-2 c = search needs
 
 element-write-out-7 : tie.Need-element-write-out-7
-element-write-out-7 c = search needs
+element-write-out-7 c = lit< tt
 
 cast-out-3 : tie.Need-cast-out-3
 cast-out-3 c = search needs
 
 element-write-out-8 : tie.Need-element-write-out-8
-element-write-out-8 c = search needs
+element-write-out-8 c = lit< tt
 
 returns : tie.Need-returns
 unfolding entryCaseAnswer

@@ -2,12 +2,13 @@
 -- Assumes nothing.
 use mathlib.Core.Path.{_≡_, sym, _∙_}
 use Rattle.opening.specs.Opened.{out-opened, out-none, out-refused}
+use lib.Dec.{lit<}
 use borrow.Author.Needs.{needs}
 use Rattle.rvf_c.proofs.files.rvf_open.Statement.{statement}
 use Rattle.rvf_c.proofs.files.rvf_open.Tie as tie
 
 open-requires : tie.Need-open-requires
-open-requires c κs = search needs
+open-requires c κs = tt
 
 enum-known-o : tie.Need-enum-known-o
 enum-known-o c = search needs
@@ -16,25 +17,25 @@ enum-known-o-2 : tie.Need-enum-known-o-2
 enum-known-o-2 c = search needs
 
 element-write-out : tie.Need-element-write-out
-element-write-out c = search needs
+element-write-out c = lit< tt
 
 enum-known-o-3 : tie.Need-enum-known-o-3
 enum-known-o-3 c = search needs
 
 element-write-out-2 : tie.Need-element-write-out-2
-element-write-out-2 c = search needs
+element-write-out-2 c = lit< tt
 
 element-write-out-3 : tie.Need-element-write-out-3
-element-write-out-3 c = search needs
+element-write-out-3 c = lit< tt
 
 element-write-out-4 : tie.Need-element-write-out-4
-element-write-out-4 c = search needs
+element-write-out-4 c = lit< tt
 
 element-write-out-5 : tie.Need-element-write-out-5
-element-write-out-5 c = search needs
+element-write-out-5 c = lit< tt
 
 element-write-out-6 : tie.Need-element-write-out-6
-element-write-out-6 c = search needs
+element-write-out-6 c = lit< tt
 
 returns : tie.Need-returns
 returns c = out-refused _ _ _ (sym (c .before .o .given .1) ∙ c .before .before .before .«open» .ensures)

@@ -4,12 +4,13 @@ use mathlib.Core.Path.{_≡_, sym, ap, _∙_}
 use mathlib.Core.List.{[]}
 use Rattle.answers.specs.Out.{out-refused, out-accepted}
 use Rattle.answers.specs.Write.{wroteAnswer}
+use lib.Dec.{lit<}
 use borrow.Author.Needs.{needs}
 use Rattle.rvf_c.proofs.leaves.rvf_varint_write.Statement.{statement}
 use Rattle.rvf_c.proofs.leaves.rvf_varint_write.Tie as tie
 
 write-requires : tie.Need-write-requires
-write-requires c κs = search needs
+write-requires c κs = tt
 
 enum-known-w : tie.Need-enum-known-w
 enum-known-w c = search needs
@@ -18,7 +19,7 @@ enum-known-w-2 : tie.Need-enum-known-w-2
 enum-known-w-2 c = search needs
 
 element-write-out : tie.Need-element-write-out
-element-write-out c = search needs
+element-write-out c = lit< tt
 
 same-length : tie.Need-same-length
 same-length c = search needs

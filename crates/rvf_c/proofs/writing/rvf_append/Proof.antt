@@ -4,12 +4,13 @@ use mathlib.Core.Path.{sym, ap, _∙_}
 use mathlib.Core.List.{[]}
 use Rattle.answers.specs.Out.{out-refused, out-accepted}
 use Rattle.append.specs.Answer.{appendedAnswer}
+use lib.Dec.{lit<}
 use borrow.Author.Needs.{needs}
 use Rattle.rvf_c.proofs.writing.rvf_append.Statement.{statement}
 use Rattle.rvf_c.proofs.writing.rvf_append.Tie as tie
 
 append-requires : tie.Need-append-requires
-append-requires c κs = search needs
+append-requires c κs = tt
 
 enum-known-a : tie.Need-enum-known-a
 enum-known-a c = search needs
@@ -18,13 +19,13 @@ enum-known-a-2 : tie.Need-enum-known-a-2
 enum-known-a-2 c = search needs
 
 element-write-out : tie.Need-element-write-out
-element-write-out c = search needs
+element-write-out c = lit< tt
 
 element-write-out-2 : tie.Need-element-write-out-2
-element-write-out-2 c = search needs
+element-write-out-2 c = lit< tt
 
 element-write-out-3 : tie.Need-element-write-out-3
-element-write-out-3 c = search needs
+element-write-out-3 c = lit< tt
 
 same-length : tie.Need-same-length
 same-length c = search needs

@@ -1,0 +1,51 @@
+-- `rvf_list` meets its contract: what `list_file::list` answers, by number and values.
+-- Assumes nothing.
+use mathlib.Core.Path.{sym, ap, _∙_}
+use mathlib.Core.List.{[]}
+use Rattle.answers.specs.Out.{out-refused, out-accepted}
+use Rattle.answers.specs.Write.{wroteAnswer}
+use lib.Dec.{lit<}
+use borrow.Author.Needs.{needs}
+use Rattle.rvf_c.proofs.lists.rvf_list.Statement.{statement}
+use Rattle.rvf_c.proofs.lists.rvf_list.Tie as tie
+
+list-requires : tie.Need-list-requires
+list-requires c κs = tt
+
+enum-known-w : tie.Need-enum-known-w
+enum-known-w c = search needs
+
+enum-known-w-2 : tie.Need-enum-known-w-2
+enum-known-w-2 c = search needs
+
+element-write-out : tie.Need-element-write-out
+element-write-out c = lit< tt
+
+same-length : tie.Need-same-length
+same-length c = search needs
+
+returns : tie.Need-returns
+returns c =
+    let a = out-refused _ _ [] _ (ap wroteAnswer (sym (c .before .before .before .before .before .list .ensures .0) ∙ c .before .w .given .1)) in
+    (a .0, (c .before .before .before .before .before .list .ensures .1, a .1))
+
+same-length-2 : tie.Need-same-length-2
+same-length-2 c = search needs
+
+returns-2 : tie.Need-returns-2
+returns-2 c =
+    let a = out-accepted _ _ _ (ap wroteAnswer (sym (c .before .before .before .before .before .list .ensures .0) ∙ c .before .w2 .given .1)) in
+    (a .0, (c .before .before .before .before .before .list .ensures .1, a .1))
+
+pub rvf-list-spec : {M : Type 1} → statement M
+rvf-list-spec =
+    tie.close
+    (tie.spec
+    list-requires
+    enum-known-w
+    enum-known-w-2
+    element-write-out
+    same-length
+    returns
+    same-length-2
+    returns-2)

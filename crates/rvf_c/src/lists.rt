@@ -1,0 +1,23 @@
+// The lister's text.
+ghost use mathlib.Core.Path.{_≡_};
+ghost use Rattle.answers.specs.Answer.{number, outOf};
+ghost use Rattle.answers.specs.Write.{wroteAnswer, writeAnswer, writeBuffer};
+ghost use Rattle.listing.specs.Listing.{listText};
+use answers::Wrote;
+
+// What the lister prints about a file of at most 65,536 bytes, or that it refuses, at the front of a buffer: its length, or 9.
+#[no_mangle]
+pub extern "C" fn rvf_list(file: &[u8], buffer: &mut [u8], out: &mut [u64; 1]) -> u32
+    ensures { λ r. ⌜ r ≡ number (wroteAnswer (writeAnswer 0 (listText (now (file .entry))) (now (buffer .entry)))) ⌝ }
+    ensures { λ _. ⌜ now (buffer .exit) ≡ writeBuffer 0 (listText (now (file .entry))) (now (buffer .entry)) ⌝ }
+    ensures { λ _. ⌜ now (out .exit) ≡ outOf (now (out .entry)) (wroteAnswer (writeAnswer 0 (listText (now (file .entry))) (now (buffer .entry)))) ⌝ }
+{
+    let w = list_file::list(file, buffer);
+    match w {
+        Wrote::Refused(e) => e,
+        Wrote::Length(length) => {
+            out[0] = length as u64;
+            0
+        }
+    }
+}

@@ -1,0 +1,149 @@
+//! The commands, out of the words of the command line.
+
+use crate::failure::Failure;
+use crate::help;
+use crate::words::{number, usage, Words, REPEATED};
+use std::ffi::{OsStr, OsString};
+use std::path::PathBuf;
+
+#[derive(Debug)]
+pub enum Command {
+    /// The text about everything, or about one command.
+    Help(Option<&'static str>),
+    Version,
+    List(PathBuf),
+    Check(PathBuf),
+    Get { file: PathBuf, wanted: Wanted },
+    Append(Append),
+}
+
+/// What is to be got out of a file.
+#[derive(Debug)]
+pub enum Wanted {
+    Vector(u64),
+    Component { id: u64, index: u64 },
+    Segment { id: u64, to: Option<PathBuf> },
+}
+
+/// An append; `rvf retire` is one of an empty batch.
+#[derive(Debug)]
+pub struct Append {
+    pub file: PathBuf,
+    pub batch: Batch,
+    pub retire: Vec<u64>,
+    /// The timestamp, where one was named.
+    pub time: Option<u64>,
+    pub create: bool,
+}
+
+#[derive(Debug)]
+pub enum Batch {
+    Empty,
+    /// Bytes in the batch form.
+    Bytes(Source),
+    /// Lines of text that become one segment of vectors.
+    Vectors(Source),
+}
+
+#[derive(Debug)]
+pub enum Source {
+    Stdin,
+    Path(PathBuf),
+}
+
+impl Source {
+    /// What messages call it.
+    pub fn name(&self) -> String {
+        match self {
+            Source::Stdin => "standard input".to_string(),
+            Source::Path(path) => path.display().to_string(),
+        }
+    }
+}
+
+pub fn parse(words: Vec<OsString>) -> Result<Command, Failure> {
+    let mut words = Words::split(words)?;
+    words.flag("--json");
+    if words.flag("--help") {
+        return help_about(&words.plain);
+    }
+    if words.flag("--version") {
+        words.finish("rvf --version", 0)?;
+        return Ok(Command::Version);
+    }
+    if words.plain.is_empty() {
+        return Err(usage("name a command: list, check, get, append, retire or help"));
+    }
+    let name = words.plain.remove(0);
+    match name.to_str() {
+        Some("help") => help_about(&words.plain),
+        Some("list") => Ok(Command::List(words.only_file("rvf list")?)),
+        Some("check") => Ok(Command::Check(words.only_file("rvf check")?)),
+        Some("get") => get(words),
+        Some("append") => append(words),
+        Some("retire") => retire(words),
+        _ => Err(usage(format!("unknown command '{}'", name.to_string_lossy()))),
+    }
+}
+
+fn help_about(plain: &[OsString]) -> Result<Command, Failure> {
+    match plain {
+        [] => Ok(Command::Help(None)),
+        [word, ..] if word == "help" => Ok(Command::Help(None)),
+        [word, ..] => match help::COMMANDS.iter().find(|name| word == **name) {
+            Some(name) => Ok(Command::Help(Some(name))),
+            None => Err(usage(format!("unknown command '{}'", word.to_string_lossy()))),
+        },
+    }
+}
+
+fn get(mut words: Words) -> Result<Command, Failure> {
+    let (segment, component, to) = (words.number("--segment")?, words.number("--component")?, words.value("--to"));
+    let plain = if segment.is_some() { 1 } else { 2 };
+    let [file, rest @ ..] = &words.finish("rvf get", plain)?[..] else {
+        return Err(usage("rvf get needs a FILE"));
+    };
+    let wanted = match (segment, rest, component, to) {
+        (Some(_), _, Some(_), _) => return Err(usage("--segment and --component do not go together")),
+        (Some(id), _, None, to) => Wanted::Segment { id, to: to.map(PathBuf::from) },
+        (None, _, _, Some(_)) => return Err(usage("--to goes with --segment only")),
+        (None, [], ..) => return Err(usage("rvf get needs the ID of a vector, or --segment ID")),
+        (None, [id, ..], None, None) => Wanted::Vector(number("ID", id)?),
+        (None, [id, ..], Some(index), None) => Wanted::Component { id: number("ID", id)?, index },
+    };
+    Ok(Command::Get { file: file.into(), wanted })
+}
+
+fn append(mut words: Words) -> Result<Command, Failure> {
+    let (retire, time, create) = (words.numbers(REPEATED)?, words.number("--time")?, words.flag("--create"));
+    let vectors = words.value("--vectors");
+    let plain = words.finish("rvf append", 2)?;
+    let (file, batch) = match (&plain[..], vectors) {
+        ([file], Some(text)) => (file, Batch::Vectors(source(&text))),
+        ([file, batch], None) => (file, Batch::Bytes(source(batch))),
+        ([], _) => return Err(usage("rvf append needs a FILE")),
+        ([_], None) => return Err(usage("rvf append needs a BATCH, or --vectors TEXT")),
+        ([_, batch, ..], Some(_)) => {
+            return Err(usage(format!("'{}' and --vectors do not go together", batch.to_string_lossy())))
+        }
+        ([_, _, ..], None) => return Err(usage("rvf append takes one FILE and one BATCH")),
+    };
+    Ok(Command::Append(Append { file: file.into(), batch, retire, time, create }))
+}
+
+fn retire(mut words: Words) -> Result<Command, Failure> {
+    let time = words.number("--time")?;
+    let plain = words.finish("rvf retire", usize::MAX)?;
+    let [file, ids @ ..] = &plain[..] else {
+        return Err(usage("rvf retire needs a FILE and the IDs of segments"));
+    };
+    if ids.is_empty() {
+        return Err(usage("rvf retire needs the ID of at least one segment"));
+    }
+    let retire = ids.iter().map(|id| number("ID", id)).collect::<Result<_, _>>()?;
+    Ok(Command::Append(Append { file: file.into(), batch: Batch::Empty, retire, time, create: false }))
+}
+
+fn source(word: &OsStr) -> Source {
+    if word == "-" { Source::Stdin } else { Source::Path(word.into()) }
+}

@@ -1,0 +1,125 @@
+//! The real program stopped in the middle of an append: by a limit on the length of files,
+//! and by a kill at some moment. What is left answers as before, or as the new file.
+#![cfg(unix)]
+
+mod common;
+
+use common::{answers, appended, bytes_of, end_of, program, put, rvf, sample, small_batch, text, Place};
+use rvf::Body;
+use std::os::unix::process::ExitStatusExt;
+use std::process::{Command, Output, Stdio};
+use std::time::{Duration, Instant};
+
+const TIME: &str = "99";
+
+/// Runs an append under a limit on the length of files, in blocks of the shell.
+fn limited(place: &Place, blocks: usize, ignoring: bool) -> Output {
+    let trap = if ignoring { "trap '' XFSZ; " } else { "" };
+    // No core file, should the signal leave one.
+    let script = format!("ulimit -c 0; {trap}ulimit -f {blocks}; exec \"$0\" append \"$1\" \"$2\" --time {TIME}");
+    let mut shell = Command::new("sh");
+    shell.args(["-c", &script, env!("CARGO_BIN_EXE_rvf")]).args([&place.file, &place.batch]).output().expect("the shell runs")
+}
+
+/// An append that is to be stopped: the file before it and after it.
+struct Stopped {
+    place: Place,
+    old: Vec<u8>,
+    new: Vec<u8>,
+}
+
+impl Stopped {
+    fn new(name: &str, old: Vec<u8>, batch: &[u8]) -> Stopped {
+        let new = appended(&old, batch, &[], 99).expect("the append is accepted");
+        Stopped { place: Place::new(name, &old, batch), old, new }
+    }
+
+    /// The file as a stopped append left it: as before or the new one, and whichever it is,
+    /// the next append by the program gives what it gives on a file that was never stopped.
+    fn must_be_sound(&self) -> bool {
+        let file = &self.place.file;
+        let left = bytes_of(file);
+        let whole = left == self.new;
+        let as_if: &[u8] = if whole { &self.new } else { &self.old };
+        assert!(answers(&left) == answers(as_if), "{} bytes answer otherwise", left.len());
+        let next = rvf(&["retire", text(file), "5", "--time", TIME]);
+        assert_eq!(next.status, 0, "{}", next.stderr);
+        assert!(bytes_of(file) == appended(as_if, &rvf::batch(&[]), &[5], 99).expect("accepted"));
+        put(file, &self.old);
+        whole
+    }
+}
+
+/// The file may not grow as far as the append needs, and the program is killed for it.
+#[test]
+fn stopped_by_a_limit() {
+    let mut killed = 0;
+    for old in [sample("clean.rvf"), sample("torn.rvf")] {
+        let stopped = Stopped::new("limit", old, &small_batch());
+        // A block is 512 or 1,024 bytes, so these reach from below the file to above it.
+        for blocks in 12..=40 {
+            let ran = limited(&stopped.place, blocks, false);
+            killed += usize::from(ran.status.signal().is_some());
+            assert!(ran.status.signal().is_some() || ran.status.success(), "{ran:?}");
+            assert_eq!(stopped.must_be_sound(), ran.status.success());
+        }
+    }
+    assert!(killed > 4, "{killed} were killed");
+}
+
+/// The same with the signal ignored: the write fails, and the program takes it back.
+#[test]
+fn a_failing_write_is_taken_back() {
+    let mut failed = 0;
+    let stopped = Stopped::new("taken-back", sample("torn.rvf"), &small_batch());
+    for blocks in 12..=40 {
+        let ran = limited(&stopped.place, blocks, true);
+        if !ran.status.success() {
+            failed += 1;
+            assert_eq!(ran.status.code(), Some(74));
+            let said = String::from_utf8_lossy(&ran.stderr).into_owned();
+            assert!(said.starts_with(&format!("rvf: {}: writing failed: ", stopped.place.file.display())), "{said}");
+            assert!(said.ends_with("what was written is taken back, the file answers as before\n"), "{said}");
+            assert!(bytes_of(&stopped.place.file) == stopped.old[..end_of(&stopped.old)]);
+        }
+        assert_eq!(stopped.must_be_sound(), ran.status.success());
+    }
+    assert!(failed > 2, "{failed} failed");
+}
+
+/// A file of some million bytes and the longest batch that goes in.
+fn large() -> Stopped {
+    let body = vec![3; 1_000_000];
+    let batch = rvf::batch(&[Body { kind: 8, flags: 0, bytes: &body }]);
+    let mut old = sample("clean.rvf");
+    for time in 0..3 {
+        old = appended(&old, &batch, &[], time).expect("accepted");
+    }
+    Stopped::new("kill", old, &batch)
+}
+
+/// Killed at moments spread over the time that an append takes.
+#[test]
+fn killed_at_any_moment() {
+    const KILLS: u32 = 48;
+    let stopped = large();
+    let Place { file, batch } = &stopped.place;
+    let words = ["append", text(file), text(batch), "--time", TIME];
+    let append = || program().args(words).stdout(Stdio::null()).spawn().expect("it starts");
+    let start = Instant::now();
+    assert!(append().wait().expect("it ends").success());
+    let takes = start.elapsed().min(Duration::from_millis(250));
+    assert!(stopped.must_be_sound());
+    let mut whole = 0;
+    for kill in 0..KILLS {
+        let mut child = append();
+        std::thread::sleep(takes * kill / KILLS);
+        child.kill().expect("it is ours");
+        let ended = child.wait().expect("it ends");
+        let done = stopped.must_be_sound();
+        // Whatever says that it is done is done.
+        assert!(done || !ended.success());
+        whole += u32::from(done);
+    }
+    println!("{whole} of {KILLS} were done before the kill");
+}

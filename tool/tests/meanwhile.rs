@@ -1,0 +1,78 @@
+//! Others at work on the same file: a second append is turned away, and a reader sees the file
+//! before an append or after it, nothing between.
+
+mod common;
+
+use common::{answers, appended, bytes_of, rvf, sample, small_batch, text, Answers, Place};
+use std::sync::atomic::{AtomicBool, Ordering};
+use std::time::{Duration, Instant};
+
+fn place(name: &str) -> Place {
+    Place::new(name, &sample("clean.rvf"), &small_batch())
+}
+
+#[test]
+fn of_two_appends_at_once_one_is_turned_away() {
+    let place = place("locked");
+    let held = std::fs::File::open(&place.file).expect("it opens");
+    held.lock().expect("it is locked");
+    let ran = place.append(&["--time", "9"]);
+    let said = format!("rvf: {}: another append is at work on it; try again\n", place.file.display());
+    assert_eq!((ran.status, ran.stderr), (74, said));
+    assert!(bytes_of(&place.file) == sample("clean.rvf"));
+    // Reading goes on meanwhile.
+    assert_eq!(rvf(&["list", text(&place.file)]).status, 0);
+    // Not only dropped: a program that another test is just starting may share the handle.
+    held.unlock().expect("it was locked");
+    assert_eq!(place.append(&["--time", "9"]).status, 0);
+}
+
+/// Many appends at once: each is accepted or turned away, and the file holds the accepted.
+#[test]
+fn many_appends_at_once() {
+    let place = place("many");
+    let statuses: Vec<i32> = std::thread::scope(|scope| {
+        let runs: Vec<_> = (0..8).map(|_| scope.spawn(|| place.append(&["--time", "9"]).status)).collect();
+        runs.into_iter().map(|run| run.join().expect("no panic")).collect()
+    });
+    assert!(statuses.iter().all(|status| [0, 74].contains(status)), "{statuses:?}");
+    let accepted = statuses.iter().filter(|status| **status == 0).count();
+    assert!(accepted >= 1);
+    let states = states(accepted);
+    assert!(bytes_of(&place.file) == states[accepted]);
+}
+
+/// The clean sample, and the file after each of so many appends.
+fn states(appends: usize) -> Vec<Vec<u8>> {
+    let mut states = vec![sample("clean.rvf")];
+    for _ in 0..appends {
+        let last = states.last().expect("there is a first");
+        states.push(appended(last, &small_batch(), &[], 9).expect("accepted"));
+    }
+    states
+}
+
+/// Reading without a lock, again and again, while appends go on.
+#[test]
+fn a_reader_sees_a_whole_state() {
+    const APPENDS: usize = 12;
+    let place = place("reader");
+    let states: Vec<Answers> = states(APPENDS).iter().map(|file| answers(file)).collect();
+    let done = AtomicBool::new(false);
+    let start = Instant::now();
+    std::thread::scope(|scope| {
+        scope.spawn(|| {
+            let statuses: Vec<i32> = (0..APPENDS).map(|_| place.append(&["--time", "9"]).status).collect();
+            done.store(true, Ordering::SeqCst);
+            assert_eq!(statuses, [0; APPENDS]);
+        });
+        let mut last = 0;
+        while !done.load(Ordering::SeqCst) && start.elapsed() < Duration::from_secs(30) {
+            let now = answers(&bytes_of(&place.file));
+            let state = states.iter().position(|state| *state == now).expect("an answer of one of the states");
+            assert!(state >= last, "the file went back from {last} to {state}");
+            last = state;
+        }
+    });
+    assert!(answers(&bytes_of(&place.file)) == states[APPENDS]);
+}
