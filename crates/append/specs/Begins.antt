@@ -23,8 +23,8 @@ use Rattle.appending.specs.Append.{keptLinks, startOf, nextId, oldLinks, oldSta
 use Rattle.appending.specs.States.{retired-length}
 use Rattle.appending.specs.Opens.{kept}
 use Rattle.appending.specs.Buffer.{start-inside}
-use Rattle.append.specs.Late.{nextOf}
-use Rattle.append.specs.Base.{Base, kept-opens}
+use Rattle.commit.specs.Late.{nextOf}
+use Rattle.commit.specs.Base.{Base, kept-opens}
 
 -- ---- an empty file
 

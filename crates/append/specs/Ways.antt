@@ -18,10 +18,10 @@ use Rattle.batch.specs.Form.{batchHeld, bodiesOf}
 use Rattle.appending.specs.Retire.{retireHeld}
 use Rattle.appending.specs.Append.{startOf, oldLinks, oldStates, newCount, newStates, newPayload, newBytes, vectorsBad, checked, isNone, appendChecks, answerOn, appendAnswer, bufferOn, appendBuffer, Appends}
 use Rattle.appending.specs.Accepts.{Passed, passed, empty-passes}
-use Rattle.append.specs.declared.Appended.{Appended}
-use Rattle.append.specs.declared.Appended.the-variants.{Refused}
-use Rattle.append.specs.Answer.{appendedAnswer, batchNumber}
-use Rattle.append.specs.Late.{lateChecks, lateAnswer, bytesWith, bufferWith, lateBuffer}
+use Rattle.commit.specs.declared.Appended.{Appended}
+use Rattle.commit.specs.declared.Appended.the-variants.{Refused}
+use Rattle.commit.specs.Answer.{appendedAnswer, batchNumber}
+use Rattle.commit.specs.Late.{lateChecks, lateAnswer, bytesWith, bufferWith, lateBuffer}
 
 module _ (old : List ℕ) (n : ℕ) (batch ids : List ℕ) (ts : ℕ) where
   -- a refusal leaves the buffer

@@ -2,29 +2,19 @@
 ghost use mathlib.Core.Path.{_≡_};
 ghost use mathlib.Core.Bool.{true, not};
 ghost use mathlib.Core.List.{_++_};
-ghost use Prim.Native.Nat.{_+_, _-_, _≤_, _<_, _^_};
-ghost use lib.Dec.{ltb};
-ghost use lib.ListN.{length, take, replicate};
+ghost use Prim.Native.Nat.{_+_, _-_, _≤_, _<_};
+ghost use lib.ListN.{length, replicate};
 ghost use Rattle.octets.specs.Over.{over};
-ghost use Rattle.segment.specs.Chained.{chain};
 ghost use Rattle.chain_index.specs.Offsets.{most};
 ghost use Rattle.manifest.specs.Opening.{opened};
 ghost use Rattle.manifest_write.specs.At.{Inside};
 ghost use Rattle.opening.specs.Directory.{ManifestAt, Indexed};
-ghost use Rattle.batch.specs.Form.{batchHeld, bodiesOf};
 ghost use Rattle.appending.specs.Retire.{retireHeld, retired};
-ghost use Rattle.appending.specs.Append.{oldLinks, oldStates, newCount, Appends};
-ghost use Rattle.append.specs.Answer.{appendedAnswer, batchNumber};
+ghost use Rattle.appending.specs.Append.{oldLinks, oldStates, Appends};
+ghost use Rattle.commit.specs.Answer.{appendedAnswer, batchNumber};
 ghost use Rattle.append.specs.Entries.{idsAt, kindsAt};
-ghost use Rattle.append.specs.Late.{nextOf, lateAnswer, lateBuffer};
-ghost use Rattle.append.specs.Base.{Base};
+use commit::Appended;
 use opening::Opened;
-
-// What an append answers: the new end, the manifest's id and the number of its entries; or the number of a refusal.
-pub enum Appended {
-    At { end: usize, id: u64, count: usize },
-    Refused(u32),
-}
 
 // The number that a batch is refused with: 10 for its form, then that of its first bad vector body; 0 where it is taken.
 fn batch_number(batch: &[u8]) -> u32
@@ -33,7 +23,7 @@ fn batch_number(batch: &[u8]) -> u32
     if !batch_check::check(batch) {
         return 10;
     }
-    batch_check::vectors_bad(batch)
+    batch_vectors::vectors_bad(batch)
 }
 
 // The ids and types of the links at some offsets, at the front of two lists.
@@ -81,69 +71,6 @@ fn retire_states(
     )
 }
 
-// Whether the new manifest's id would pass the largest number: ids go on from `last`, or from 0 in an empty file.
-fn ids_over(first: bool, last: u64, m: u64) -> bool
-    requires { ⌜ m ≤ 16 ⌝ }
-    ensures { λ r. ⌜ r ≡ ltb (2 ^ 64 - 1) (nextOf first last + m) ⌝ }
-{
-    if first {
-        return false;
-    }
-    0xFFFFFFFFFFFFFFFF - last <= m
-}
-
-// The next id.
-fn next_id(first: bool, last: u64) -> u64
-    requires { ⌜ nextOf first last < 2 ^ 64 ⌝ }
-    ensures { λ r. ⌜ r ≡ nextOf first last ⌝ }
-{
-    if first {
-        return 0;
-    }
-    last + 1
-}
-
-// The rest of an append, behind the tests of the file, the batch and the ids: 12, 13, 1, 9; then all is written. The file is what is kept, the bytes
-// up to the start.
-fn finish(
-    buf: &mut [u8],
-    batch: &[u8],
-    start: usize,
-    kept: usize,
-    first: bool,
-    last: u64,
-    timestamp: u64,
-    offsets: &mut [u64],
-    states: &[u8],
-) -> Appended
-    requires { ⌜ (batchHeld (now batch) ≡ true) × ((length (now offsets) ≡ most) × (length (now states) ≡ 1024)) ⌝ }
-    requires { ⌜ Base (take start (now buf)) (now offsets) start kept first last ⌝ }
-    ensures { λ r. ⌜ appendedAnswer r ≡ lateAnswer (length (now (buf .entry))) (opened (take start (now (buf .entry)))) (bodiesOf (now (batch .entry))) ⌝ }
-    ensures { λ _. ⌜ now (buf .exit) ≡ lateBuffer (opened (take start (now (buf .entry)))) (now (buf .entry)) (bodiesOf (now (batch .entry))) (now (states .entry)) timestamp ⌝ }
-{
-    let m = le::u32_at(batch, 0) as usize;
-    let count = kept + m;
-    if count > limits::MAX_ENTRIES {
-        return Appended::Refused(12);
-    }
-    if ids_over(first, last, m as u64) {
-        return Appended::Refused(13);
-    }
-    let next = next_id(first, last);
-    let at = append_write::bodies_end(batch, start);
-    let end = at + 64 + octets::round_up(octets::round_up(8 + 48 * count) + 4096);
-    if end > limits::MAX_FILE {
-        return Appended::Refused(1);
-    }
-    if end > buf.len() {
-        return Appended::Refused(9);
-    }
-    let id = next + m as u64;
-    append_write::put_bodies(buf, batch, start, next, timestamp, offsets, kept);
-    append_write::put_manifest(buf, at, id, timestamp, &offsets[..count], &states[..count]);
-    Appended::At { end, id, count }
-}
-
 // A batch appended to the file that is the first n bytes of a buffer, some ids retired. In order: n above the buffer 9, n above the limit 1, no manifest
 // in a file that is not empty 2, the batch's form 10, its vector bodies 5, 6, 7, retirement 11, entries 12, ids 13, the new end above the limit 1 or
 // the buffer 9.
@@ -173,7 +100,7 @@ pub fn append(buf: &mut [u8], n: u64, batch: &[u8], ids: &[u64], timestamp: u64)
                 return Appended::Refused(11);
             }
             let states = [0u8; 1024];
-            finish(buf, batch, 0, 0, true, 0, timestamp, &mut offsets, &states)
+            commit::finish(buf, batch, 0, 0, true, 0, timestamp, &mut offsets, &states)
         }
         Opened::At {
             offset,
@@ -191,7 +118,7 @@ pub fn append(buf: &mut [u8], n: u64, batch: &[u8], ids: &[u64], timestamp: u64)
                 return Appended::Refused(11);
             }
             let start = end;
-            finish(
+            commit::finish(
                 buf,
                 batch,
                 start,

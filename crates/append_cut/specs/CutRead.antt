@@ -19,9 +19,9 @@ use Rattle.batch.specs.Form.{bodiesOf}
 use Rattle.appending.specs.Append.{startOf, manifestAt, newEnd, appendAnswer, appendBuffer, Appends}
 use Rattle.appending.specs.Written.{bodiesEnd-ge}
 use Rattle.appending.specs.Buffer.{Holds, Appended, appended}
-use Rattle.append.specs.declared.Appended as answer
-use Rattle.append.specs.declared.Appended.the-variants as append
-use Rattle.append.specs.Answer.{appendedAnswer}
+use Rattle.commit.specs.declared.Appended as answer
+use Rattle.commit.specs.declared.Appended.the-variants as append
+use Rattle.commit.specs.Answer.{appendedAnswer}
 use Rattle.append.specs.Ways.{way-room}
 use Rattle.claim.specs.Runs.{stop}
 use Rattle.claim.specs.Reports.{lastAccepted}

@@ -6,7 +6,7 @@ ghost use lib.ListN.{length};
 ghost use Rattle.manifest.specs.Opening.{opened};
 ghost use Rattle.appending.specs.Append.{startOf, appendBuffer};
 ghost use Rattle.append_cut.specs.CutRead.{Says};
-use append::Appended;
+use commit::Appended;
 use opening::Opened;
 use vec_get::Vector;
 

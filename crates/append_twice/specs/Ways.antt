@@ -12,9 +12,9 @@ use Rattle.opening.specs.declared.Opened as op
 use Rattle.opening.specs.declared.Opened.the-variants as ops
 use Rattle.opening.specs.Opened.{openedAnswer, openedCase, opened-same}
 use Rattle.batch.specs.Form.{bodiesOf}
-use Rattle.append.specs.declared.Appended.{Appended}
-use Rattle.append.specs.declared.Appended.the-variants as aps
-use Rattle.append.specs.Answer.{appendedAnswer}
+use Rattle.commit.specs.declared.Appended.{Appended}
+use Rattle.commit.specs.declared.Appended.the-variants as aps
+use Rattle.commit.specs.Answer.{appendedAnswer}
 use Rattle.appending.specs.Append.{newEnd, appendAnswer, appendBuffer, Appends}
 use Rattle.appending.specs.Buffer as buffer
 use Rattle.appending.specs.Buffer.{Holds, with-length, file-is}

@@ -2,7 +2,7 @@
 // model alone: that the two agree is the claim about every list of appends.
 ghost use mathlib.Core.Path.{_≡_};
 ghost use Rattle.append_twice.specs.Twice.{Says, twiceBuffer};
-use append::Appended;
+use commit::Appended;
 use opening::Opened;
 
 // What opening answers at the end: the manifest's offset, end and id and the number of its entries; or no manifest; or the number by
@@ -57,9 +57,9 @@ pub fn append_twice(
                             count,
                             tried: _,
                         } => Twice::At {
-                            offset,
-                            end,
-                            id,
+                            offset: offset,
+                            end: end,
+                            id: id,
                             count: count,
                         },
                     }

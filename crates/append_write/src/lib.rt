@@ -83,6 +83,6 @@ pub fn put_manifest(
     ensures { λ _. ⌜ now (buf .exit) ≡ over (now (buf .entry)) at (segment 5 0 id timestamp (payloadAt (take at (now (buf .entry))) (now (offsets .entry)) (now (states .entry)) at id)) ⌝ }
 {
     let mut payload = [0u8; 53312];
-    let n = manifest_write::put_payload(&mut payload, &buf[..at], offsets, states, at as u64, id);
+    let n = manifest_payload::put_payload(&mut payload, &buf[..at], offsets, states, at as u64, id);
     segment_write::put_segment(&mut buf[at..], 0x05, 0, id, timestamp, &payload[..n]);
 }

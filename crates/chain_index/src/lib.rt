@@ -20,7 +20,7 @@ pub fn collect(file: &[u8], offsets: &mut [u64]) -> usize
     let mut first = true;
     let mut prev: u64 = 0;
     while n < MOST {
-        let step = segment::link_at(file, at, first, prev);
+        let step = link::link_at(file, at, first, prev);
         match step {
             Step::Stop => return n,
             Step::Sound {

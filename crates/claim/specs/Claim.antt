@@ -16,7 +16,7 @@ use Rattle.chain.specs.Last.{Found, upTo}
 use Rattle.segment.specs.Header.{Link, size}
 use Rattle.chain_index.specs.Offsets.{noLink}
 use Rattle.manifest.specs.Opening.{opened, states, tried, openFound, openAnswer, at-within}
-use Rattle.opening.specs.Entry.{entryValues, entryFound, entryAnswer}
+use Rattle.directory.specs.Entry.{entryValues, entryFound, entryAnswer}
 use Rattle.reading.specs.Placed.{InFile, before-in}
 use Rattle.batch.specs.Form.{bodiesOf}
 use Rattle.appending.specs.Append.{startOf, oldStates, keptLinks, newEnd, bufferOn, appendBuffer, Appends}

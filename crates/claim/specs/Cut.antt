@@ -16,7 +16,7 @@ use Rattle.chain.specs.Last.{Found}
 use Rattle.segment.specs.Header.{Link}
 use Rattle.segment.specs.Laws.{size-least}
 use Rattle.manifest.specs.Opening.{opened, openFound, openAnswer, at-within, answers-alike}
-use Rattle.opening.specs.Entry.{entryFound, entryAnswer}
+use Rattle.directory.specs.Entry.{entryFound, entryAnswer}
 use Rattle.reading.specs.Answers.{NotHanded, partFound, partIn, Bad, hitFound, hitIn, vectorHit, bufferHit, vectorCase, vectorAfter, valueHit, valueIn}
 use Rattle.batch.specs.Form.{bodiesOf}
 use Rattle.appending.specs.Append.{startOf, newEnd, newBytes, checked, isNone, appendChecks, answerOn, appendAnswer, Appends}

@@ -1,3 +1,2 @@
 -- What the steps of taking an id map apart answer.
-pub mod Next
 pub mod Head

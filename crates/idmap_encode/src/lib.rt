@@ -53,7 +53,7 @@ pub fn deltas_len(ids: &[u64], r: usize) -> usize
     while i < ids.len() {
         let x = ids[i];
         let d = delta(left, prev, x);
-        total += varint::encoded_len(d);
+        total += varint_write::encoded_len(d);
         left = idmap::left_after(r, left);
         prev = x;
         i += 1;
@@ -90,7 +90,7 @@ pub fn put_deltas(buf: &mut [u8], ids: &[u64], r: usize, start: usize)
         let x = ids[i];
         let d = delta(left, prev, x);
         place = put_restart(buf, place, left, pos - start);
-        pos = varint::put(buf, pos, d);
+        pos = varint_write::put(buf, pos, d);
         left = idmap::left_after(r, left);
         prev = x;
         i += 1;

@@ -4,57 +4,8 @@ ghost use Prim.Native.Nat.{_+_, _*_, _≤_, _<_};
 ghost use lib.ListN.{length};
 ghost use Rattle.octets.specs.Over.{over};
 ghost use Rattle.answers.specs.Write.{writeAnswer, writeBuffer};
-ghost use Rattle.idmap.specs.Encode.{intervalOf, intervalHeld, mapBytes, risesFrom, mapBad};
+ghost use Rattle.idmap.specs.Encode.{intervalOf, mapBytes, mapBad};
 use answers::Wrote;
-
-// Whether ids rise strictly.
-fn rising(ids: &[u64]) -> bool
-    ensures { λ r. ⌜ r ≡ risesFrom 0 (now (ids .entry)) ⌝ }
-{
-    let mut i: usize = 0;
-    let mut prev: u64 = 0;
-    while i < ids.len() {
-        let x = ids[i];
-        if !idmap::rises(i, prev, x) {
-            return false;
-        }
-        prev = x;
-        i += 1;
-    }
-    true
-}
-
-// Whether an encoding and its interval go together: raw has none, a delta map's fits its field.
-fn interval_held(encoding: u64, interval: u64) -> bool
-    ensures { λ r. ⌜ r ≡ intervalHeld encoding interval ⌝ }
-{
-    if encoding == 0 {
-        return interval == 0;
-    }
-    if encoding == 1 {
-        return interval < 65536;
-    }
-    false
-}
-
-// 14 where the input breaks a rule, else 0.
-pub fn refusal(ids: &[u64], encoding: u64, interval: u64) -> u32
-    ensures { λ r. ⌜ r ≡ mapBad (now (ids .entry)) encoding interval ⌝ }
-{
-    if ids.len() < 1 {
-        return 14;
-    }
-    if ids.len() > limits::MAX_VECTORS {
-        return 14;
-    }
-    if !interval_held(encoding, interval) {
-        return 14;
-    }
-    if rising(ids) {
-        return 0;
-    }
-    14
-}
 
 // The interval that is written for the one asked.
 fn interval_of(interval: u64) -> u64
@@ -101,7 +52,7 @@ pub fn write(buf: &mut [u8], ids: &[u64], encoding: u64, interval: u64) -> Wrote
     ensures { λ r. ⌜ r ≡ writeAnswer (mapBad (now (ids .entry)) encoding interval) (mapBytes (now (ids .entry)) encoding interval) (now (buf .entry)) ⌝ }
     ensures { λ _. ⌜ now (buf .exit) ≡ writeBuffer (mapBad (now (ids .entry)) encoding interval) (mapBytes (now (ids .entry)) encoding interval) (now (buf .entry)) ⌝ }
 {
-    let bad = refusal(ids, encoding, interval);
+    let bad = idmap_refusal::refusal(ids, encoding, interval);
     if bad != 0 {
         return Wrote::Refused(bad);
     }

@@ -2,5 +2,3 @@
 pub mod Candidate
 pub mod Opened
 pub mod Directory
-pub mod Entry
-pub mod EntryLaws

@@ -10,7 +10,6 @@ ghost use Rattle.manifest.specs.Opening.{opened};
 ghost use Rattle.limits.specs.Limits.{maxFile};
 ghost use Rattle.opening.specs.Opened.{foundCase, openedCase};
 ghost use Rattle.opening.specs.Directory.{Indexed};
-ghost use Rattle.opening.specs.Entry.{entryCase, entryAt};
 
 // What opening a file answers: its manifest's offset, end and id, the number of its entries and the boundaries tried; or no manifest
 // with the boundaries tried; or the number of a refusal.
@@ -28,22 +27,6 @@ pub enum Opened {
     Refused(u32),
 }
 
-// What the directory has at an index: the fields of the entry, the hash as two numbers; or no entry; or the number of a refusal.
-pub enum DirectoryEntry {
-    Of {
-        offset: u64,
-        id: u64,
-        length: u64,
-        hash_low: u64,
-        hash_high: u64,
-        kind: u8,
-        state: u8,
-        flags: u16,
-    },
-    NoEntry,
-    Refused(u32),
-}
-
 // Whether the link with number i, which begins at p, is a confirmed manifest.
 fn candidate(file: &[u8], offsets: &[u64], n: usize, i: usize, p: usize) -> bool
     requires { ⌜ (Stored (now file) (now offsets) n) × ((i < n) × (most ≤ length (now offsets))) ⌝ }
@@ -53,7 +36,7 @@ fn candidate(file: &[u8], offsets: &[u64], n: usize, i: usize, p: usize) -> bool
     let len = le::u64_at(file, p + 0x10) as usize;
     let id = le::u64_at(file, p + 0x08);
     let kind = file[p + 0x05];
-    manifest_check::is_confirmed(file, offsets, i, p, len, kind, id)
+    manifest_confirm::is_confirmed(file, offsets, i, p, len, kind, id)
 }
 
 // Down from the last multiple of 64 that has 64 bytes after it, by 64. The offsets of the chain's first links rise, so a number k that
@@ -110,47 +93,4 @@ pub fn open(file: &[u8]) -> Opened
 {
     let mut offsets = [0u64; 1025];
     open_with(file, &mut offsets)
-}
-
-// The entry of the link whose header begins at p, with the state that stands at s. A confirmed manifest says of a link what the link's own
-// header says; the state stands in the manifest alone.
-fn read_entry(file: &[u8], p: usize, s: usize) -> DirectoryEntry
-    requires { ⌜ (p + 64 ≤ length (now file)) × (s < length (now file)) ⌝ }
-    ensures { λ r. ⌜ r ≡ entryAt (now (file .entry)) p s ⌝ }
-{
-    DirectoryEntry::Of {
-        offset: p as u64,
-        id: le::u64_at(file, p + 0x08),
-        length: le::u64_at(file, p + 0x10),
-        hash_low: le::u64_at(file, p + 0x28),
-        hash_high: le::u64_at(file, p + 0x30),
-        kind: file[p + 0x05],
-        state: file[s],
-        flags: le::u16_at(file, p + 0x06),
-    }
-}
-
-// The entry with an index in the directory of the file's manifest; 1 and 2 as opening has them.
-pub fn entry(file: &[u8], index: u64) -> DirectoryEntry
-    ensures { λ r. ⌜ r ≡ entryCase (now (file .entry)) index ⌝ }
-{
-    let mut offsets = [0u64; 1025];
-    let found = open_with(file, &mut offsets);
-    match found {
-        Opened::Refused(number) => DirectoryEntry::Refused(number),
-        Opened::NoManifest { tried: _ } => DirectoryEntry::Refused(2),
-        Opened::At {
-            offset,
-            end: _,
-            id: _,
-            count,
-            tried: _,
-        } => {
-            if index >= count as u64 {
-                return DirectoryEntry::NoEntry;
-            }
-            let i = index as usize;
-            read_entry(file, offsets[i] as usize, offset + 72 + 48 * i + 41)
-        }
-    }
 }

@@ -3,8 +3,8 @@ ghost use mathlib.Core.Path.{_≡_};
 ghost use Rattle.answers.specs.Answer.{number, outOf};
 ghost use Rattle.reading.specs.Answers.{partIn, partAnswer, vectorCase, vectorAfter, valueIn, valueAnswer};
 ghost use Rattle.vec_get.specs.Vector.{vectorAnswer};
-use file_payload::Place;
 use file_vector::Bits;
+use locate_payload::Place;
 use vec_get::Vector;
 
 // Where the payload of the live segment with an id lies in the file: where it begins, and its length; or 1, 2, 3, 4.
@@ -13,7 +13,7 @@ pub extern "C" fn rvf_payload(file: &[u8], id: u64, out: &mut [u64; 2]) -> u32
     ensures { λ r. ⌜ r ≡ number (partAnswer (partIn (now (file .entry)) id)) ⌝ }
     ensures { λ _. ⌜ now (out .exit) ≡ outOf (now (out .entry)) (partAnswer (partIn (now (file .entry)) id)) ⌝ }
 {
-    let p = file_payload::payload_place(file, id);
+    let p = locate_payload::payload_place(file, id);
     match p {
         Place::Refused(e) => e,
         Place::At { start, length } => {

@@ -1,3 +1,2 @@
 -- What the checks of a VEC_SEG payload answer.
-pub mod Block
 pub mod Turn

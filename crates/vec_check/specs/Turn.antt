@@ -10,9 +10,9 @@ use Rattle.le.specs.Le.{leAt}
 use Rattle.vecseg.specs.Payload.{Line, lineOf, BlockRead, SoundBlock, BadBlock, blockOf, blocksBad, linesBad}
 use Rattle.vecseg.specs.LineLaws.{LineIs, line-is, LineGood, LinesAt, lines-good}
 use Rattle.vecseg.specs.BlockLaws.{BlocksAt, blocks-offset, blocks-bad, blocks-next}
-use Rattle.vec_check.specs.declared.Block.{Block}
-use Rattle.vec_check.specs.declared.Block.the-variants.{Sound, Refused}
-use Rattle.vec_check.specs.Block.{blockAnswer, lineWith, line-with, was-sound, was-bad}
+use Rattle.vec_block.specs.declared.Block.{Block}
+use Rattle.vec_block.specs.declared.Block.the-variants.{Sound, Refused}
+use Rattle.vec_block.specs.Block.{blockAnswer, lineWith, line-with, was-sound, was-bad}
 
 module _ (s : List ℕ) (n start i at : ℕ) (st : BlocksAt s n start i at) (h : i < n) where
   pub turn-offset : (leAt 4 s (4 + 12 * i) ≡ at → ⊥) → 5 ≡ blocksBad n start (drop 4 s) s

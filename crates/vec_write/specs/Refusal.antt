@@ -12,7 +12,7 @@ use Rattle.limits.specs.Limits.{maxDim}
 use Rattle.idmap.specs.Encode.{mapBad}
 use Rattle.octets.specs.Zero.{and-split}
 use Rattle.idmap.specs.Accepted.{good}
-use Rattle.idmap_write.specs.Ways as map
+use Rattle.idmap_refusal.specs.Ways as map
 use Rattle.vecseg.specs.Payload.{width}
 use Rattle.vecseg.specs.Writer.{vecBad}
 

@@ -41,7 +41,7 @@ fn refusal(
     if columns.len() as u64 != ids.len() as u64 * dim * w {
         return 14;
     }
-    idmap_write::refusal(ids, encoding, interval)
+    idmap_refusal::refusal(ids, encoding, interval)
 }
 
 // Zeros from a place to the next multiple of 64.

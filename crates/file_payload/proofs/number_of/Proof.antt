@@ -1,6 +1,6 @@
 -- `file_payload::number_of` meets its contract.
 -- Assumes nothing.
-use Rattle.file_payload.specs.Place.{number-at, number-not}
+use Rattle.locate_payload.specs.Place.{number-at, number-not}
 use borrow.Author.Needs.{needs}
 use Rattle.file_payload.proofs.number_of.Statement.{statement}
 use Rattle.file_payload.proofs.number_of.Tie as tie

@@ -5,7 +5,7 @@ use mathlib.Core.Path.{refl, ap}
 use native.Mathlib.Omega.{arith}
 use native.Mathlib.Nat.{add-comm, add-sub-cancel-left}
 use lib.ListN.{take, drop}
-use Rattle.file_payload.specs.Place.{hands-at, hands-outside, hands-nothing}
+use Rattle.locate_payload.specs.Place.{hands-at, hands-outside, hands-nothing}
 use borrow.Author.Needs.{needs}
 use Rattle.file_payload.proofs.part_at.Statement.{statement}
 use Rattle.file_payload.proofs.part_at.Tie as tie

@@ -41,17 +41,17 @@ use denote.Triple.Walked.{says, Stays, stay-none, stay-none-slice, walkOf, goes-
 use denote.Exit.{yes}
 use Rattle.answers.specs.Answer.{number}
 use Rattle.reading.specs.Answers.{partIn, partAnswer}
-use Rattle.file_payload.specs.Place.{placeOf, placeNumber, Hands, HandsPart, number-same, hands-part}
-use Rattle.file_payload.specs.declared.Place.{Place}
+use Rattle.locate_payload.specs.Place.{placeOf, placeNumber, Hands, HandsPart, number-same, hands-part}
+use Rattle.locate_payload.specs.declared.Place.{Place}
 use Rattle.file_payload.specs.declared.HandedPart.{HandedPart}
-use Rattle.file_payload.proofs.Place as P
-use Rattle.file_payload.proofs.Place.Laws as P′
+use Rattle.locate_payload.proofs.Place as P
+use Rattle.locate_payload.proofs.Place.Laws as P′
 use Rattle.file_payload.proofs.HandedPart as T
 use Rattle.file_payload.proofs.HandedPart.Laws as T′
-use Rattle.file_payload.proofs.payload_place as place
-use Rattle.file_payload.proofs.payload_place.Symbol as place-def
-use Rattle.file_payload.proofs.payload_place.Symbol.{name as #place}
-use Rattle.file_payload.proofs.payload_place.Met as place-thm
+use Rattle.locate_payload.proofs.payload_place as place
+use Rattle.locate_payload.proofs.payload_place.Symbol as place-def
+use Rattle.locate_payload.proofs.payload_place.Symbol.{name as #place}
+use Rattle.locate_payload.proofs.payload_place.Met as place-thm
 use Rattle.file_payload.proofs.number_of as num
 use Rattle.file_payload.proofs.number_of.Symbol as num-def
 use Rattle.file_payload.proofs.number_of.Symbol.{name as #num}
@@ -212,6 +212,6 @@ payload-spec 𝓤 H 𝓜 𝓖 𝓡 =
     entered 𝓤 H (tripleOf 𝓤 H (𝓖 .A) payload.signature (payload.spec 𝓤 H (𝓖 .A) (𝓜 .mem) (𝓡 .run)))
     (tables 𝓤 H 𝓜 𝓡 code.env .C) (tables 𝓤 H 𝓜 𝓡 code.env .Λ) #payload code.function (code.unfolded 𝓤 H 𝓜 𝓡)
     (payload-meets 𝓤 H (𝓖 .A) (givenOf 𝓤 H 𝓜 𝓖) (𝓜 .mem) (𝓡 .run) (tablesOf 𝓤 H 𝓜 (tables 𝓤 H 𝓜 𝓡 code.env))
-    (cited 𝓤 H (Located 𝓤 H (𝓖 .A) (𝓜 .mem) (𝓡 .run)) 𝓜 𝓡 code.env #place place-def.routine code.calls-file-payload·payload-place (place-thm.met 𝓤 H 𝓜 𝓖 𝓡))
+    (cited 𝓤 H (Located 𝓤 H (𝓖 .A) (𝓜 .mem) (𝓡 .run)) 𝓜 𝓡 code.env #place place-def.routine code.calls-locate-payload·payload-place (place-thm.met 𝓤 H 𝓜 𝓖 𝓡))
     (cited 𝓤 H (Numbered 𝓤 H (𝓖 .A) (𝓜 .mem) (𝓡 .run)) 𝓜 𝓡 code.env #num num-def.routine code.calls-file-payload·number-of (num-thm.met 𝓤 H 𝓜 𝓖 𝓡))
     (cited 𝓤 H (Parted 𝓤 H (𝓖 .A) (𝓜 .mem) (𝓡 .run)) 𝓜 𝓡 code.env #part part-def.routine code.calls-file-payload·part-at (part-thm.met 𝓤 H 𝓜 𝓖 𝓡)))

@@ -5,7 +5,7 @@ use mathlib.Core.Path.{sym, subst}
 use native.Mathlib.Nat.{le-refl}
 use native.Mathlib.Omega.{arith}
 use lib.ListN.{length-replicate}
-use Rattle.list_file.specs.Whole.{front-within, front-length, text-short, text-copied}
+use Rattle.list_text.specs.Whole.{front-within, front-length, text-short, text-copied}
 use Rattle.list_file.proofs.list.Statement.{statement}
 use Rattle.list_file.proofs.list.Tie as tie
 

@@ -1,9 +1,9 @@
--- `rvf_payload` meets its contract: what `file_payload::payload_place` answers, by number and values.
+-- `rvf_payload` meets its contract: what `locate_payload::payload_place` answers, by number and values.
 -- Assumes nothing.
 use mathlib.Core.Path.{_≡_, sym, ap, _∙_}
 use mathlib.Core.List.{[]}
 use Rattle.answers.specs.Out.{out-refused, out-accepted}
-use Rattle.file_payload.specs.Place.{placeAnswer, place-same}
+use Rattle.locate_payload.specs.Place.{placeAnswer, place-same}
 use lib.Dec.{lit<}
 use borrow.Author.Needs.{needs}
 use Rattle.rvf_c.proofs.by_id.rvf_payload.Statement.{statement}

@@ -1,9 +1,9 @@
--- `rvf_entry` meets its contract: what `opening::entry` answers, by number and values.
+-- `rvf_entry` meets its contract: what `directory::entry` answers, by number and values.
 -- Assumes nothing.
 use mathlib.Core.Path.{_≡_, sym, ap, _∙_}
 use mathlib.Core.List.{[]}
 use Rattle.answers.specs.Out.{out-refused, out-accepted}
-use Rattle.opening.specs.Entry.{entryCaseAnswer, entry-same}
+use Rattle.directory.specs.Entry.{entryCaseAnswer, entry-same}
 use lib.Dec.{lit<}
 use borrow.Author.Needs.{needs}
 use Rattle.rvf_c.proofs.files.rvf_entry.Statement.{statement}

@@ -1,4 +1,4 @@
--- `rvf_varint_write` meets its contract: what `varint::write` answers, by number and values.
+-- `rvf_varint_write` meets its contract: what `varint_write::write` answers, by number and values.
 -- Assumes nothing.
 use mathlib.Core.Path.{_≡_, sym, ap, _∙_}
 use mathlib.Core.List.{[]}

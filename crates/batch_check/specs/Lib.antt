@@ -1,2 +1,0 @@
--- What the check of a batch's vector bodies goes by.
-pub mod Vectors

@@ -1,3 +1,0 @@
--- A segment's payload as a part of the file.
-pub mod Place
-pub mod Find

@@ -1,0 +1,2 @@
+-- The ids of a map with differences taken apart.
+pub mod Next
