@@ -15,7 +15,7 @@ use Rattle.le.specs.Le.{leOf, leBytes}
 use Rattle.le.specs.Laws.{leOf-leBytes}
 use Rattle.vecseg.specs.Payload.{Line, lineOf, blockCount, filled}
 use Rattle.vecseg.specs.Writer.{padding, directory}
-use Rattle.vec_write.specs.Laid.{length-directory, length-front}
+use Rattle.vec_put.specs.Laid.{length-directory, length-front}
 
 -- the line of the block that a writer writes
 unfoldable pub lineFor : ℕ → ℕ → ℕ → ℕ → Line

@@ -1,14 +1,14 @@
--- `vec_write::put_block` meets its contract: columns, the map in a part that was lent, the checksum of both, the padding.
+-- `vec_put::put_block` meets its contract: columns, the map in a part that was lent, the checksum of both, the padding.
 -- Assumes nothing.
 use Prim.Native.Nat.{_+_}
 use mathlib.Core.Path.{sym}
 use native.Mathlib.Omega.{arith}
 use lib.Seq.{length-take-le}
 use Rattle.octets.specs.Round.{round64-ge}
-use Rattle.vec_write.specs.Laid.{map-laid, block-laid}
+use Rattle.vec_put.specs.Laid.{map-laid, block-laid}
 use borrow.Author.Needs.{needs}
-use Rattle.vec_write.proofs.put_block.Statement.{statement}
-use Rattle.vec_write.proofs.put_block.Tie as tie
+use Rattle.vec_put.proofs.put_block.Statement.{statement}
+use Rattle.vec_put.proofs.put_block.Tie as tie
 use Rattle.le.proofs.put.Reads as put-reads′
 
 copy-requires : tie.Need-copy-requires

@@ -1,11 +1,11 @@
--- `vec_write::put_directory` meets its contract, field by field.
+-- `vec_put::put_directory` meets its contract, field by field.
 -- Assumes nothing.
 use native.Mathlib.Omega.{arith}
 use Rattle.octets.specs.Round.{round64}
-use Rattle.vec_write.specs.Laid.{directory-laid}
+use Rattle.vec_put.specs.Laid.{directory-laid}
 use borrow.Author.Needs.{needs}
-use Rattle.vec_write.proofs.put_directory.Statement.{statement}
-use Rattle.vec_write.proofs.put_directory.Tie as tie
+use Rattle.vec_put.proofs.put_directory.Statement.{statement}
+use Rattle.vec_put.proofs.put_directory.Tie as tie
 
 put-requires : tie.Need-put-requires
 put-requires c κs = search needs

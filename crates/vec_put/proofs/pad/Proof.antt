@@ -1,11 +1,11 @@
--- `vec_write::pad` meets its contract: the part that was lent comes back as zeros.
+-- `vec_put::pad` meets its contract: the part that was lent comes back as zeros.
 -- Assumes nothing.
 use native.Mathlib.Omega.{arith}
 use Rattle.octets.specs.Round.{round64, round64-ge}
-use Rattle.vec_write.specs.Laid.{pad-laid}
+use Rattle.vec_put.specs.Laid.{pad-laid}
 use borrow.Author.Needs.{needs}
-use Rattle.vec_write.proofs.pad.Statement.{statement}
-use Rattle.vec_write.proofs.pad.Tie as tie
+use Rattle.vec_put.proofs.pad.Statement.{statement}
+use Rattle.vec_put.proofs.pad.Tie as tie
 
 round-up-requires : tie.Need-round-up-requires
 unfolding round64

@@ -1,0 +1,2 @@
+-- What the parts of a one-block payload lay into a buffer.
+pub mod Laid
