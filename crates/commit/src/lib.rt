@@ -76,6 +76,6 @@ pub fn finish(
     }
     let id = next + m as u64;
     append_write::put_bodies(buf, batch, start, next, timestamp, offsets, kept);
-    append_write::put_manifest(buf, at, id, timestamp, &offsets[..count], &states[..count]);
+    append_manifest::put_manifest(buf, at, id, timestamp, &offsets[..count], &states[..count]);
     Appended::At { end, id, count }
 }

@@ -26,8 +26,8 @@ use Rattle.vec_get.specs.Vector.{vectorIn, vectorBuffer, placedOf, placedBuffer
 use Rattle.vec_get.specs.declared.Vector.the-variants.{Refused as VectorRefused}
 use Rattle.reading.specs.Answers.{Hit, Held, Missing, Bad, hitIn, vectorHit, bufferHit, vectorCase, vectorAfter, Value, Stored, NoValue, valueHit, valueIn}
 use Rattle.reading.specs.Placed.{HeldIn, hit-in}
-use Rattle.locate.specs.Located.{locatedOf}
-use Rattle.locate.specs.declared.Located.the-variants.{In, Nowhere, Refused}
+use Rattle.segment_find.specs.Located.{locatedOf}
+use Rattle.segment_find.specs.declared.Located.the-variants.{In, Nowhere, Refused}
 use Rattle.file_vector.specs.Component.{componentCase, bitsCase}
 use Rattle.file_vector.specs.declared.Read.the-variants.{Value as KindOf, Refused as ReadRefused}
 use Rattle.file_vector.specs.declared.Bits.the-variants.{Of, Refused as BitsRefused}

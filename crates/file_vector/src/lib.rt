@@ -4,7 +4,7 @@ ghost use Rattle.reading.specs.Answers.{vectorCase, vectorAfter, valueIn};
 ghost use Rattle.file_vector.specs.Component.{componentCase, bitsCase};
 ghost use Rattle.file_vector.specs.Value.{Lies};
 use answers::Wrote;
-use locate::Located;
+use segment_find::Located;
 use vec_get::Vector;
 use vec_read::Component;
 

@@ -22,7 +22,7 @@ use Rattle.opening.specs.Opened.{openedCase, foundCase}
 use Rattle.opening.specs.Directory.{ManifestAt, Indexed, opened-at, opened-end, opened-none, opened-refused, manifest-numbered, manifest-part, manifest-room}
 use Rattle.listing.specs.Listing.{maxListed, heading, refusedLine, endLine, listFound, listText}
 use Rattle.listing.specs.Lines.{lineAt, line-at}
-use Rattle.listing.specs.Entries.{entryLines}
+use Rattle.list_entries.specs.Entries.{entryLines}
 
 -- opening answers this offset, end, number of entries and number of boundaries tried
 abbrev pub OpensAt : List ℕ → ℕ → ℕ → ℕ → ℕ → Type 0

@@ -25,7 +25,7 @@ fn put_list(
     ensures { λ r. ⌜ Written (now (text .entry)) (now (text .exit)) 0 (listFound (now (file .entry)) (opened (now (file .entry)))) r ⌝ }
 {
     let headed = text::put_bytes(text, 0, b"id type offset length state check\n");
-    let listed = listing::put_entries(text, headed, file, offsets, manifest, count);
+    let listed = list_entries::put_entries(text, headed, file, offsets, manifest, count);
     let last = listing::put_segment(text, listed, file, manifest, b"manifest");
     let ended = text::put_number(text, last, b"end ", end as u64, b" tried ");
     text::put_number(text, ended, b"", tried as u64, b"\n")

@@ -3,66 +3,12 @@
 ghost use mathlib.Core.Path.{_≡_};
 ghost use Prim.Native.Nat.{_+_, _≤_};
 ghost use lib.ListN.{length};
-ghost use Rattle.le.specs.Le.{leAt};
 ghost use Rattle.chain_index.specs.Offsets.{most};
 ghost use Rattle.opening.specs.Directory.{ManifestAt, Indexed};
 ghost use Rattle.reading.specs.Answers.{hitIn};
-ghost use Rattle.locate.specs.Located.{locatedOf, lookAt};
+ghost use Rattle.segment_find.specs.Located.{locatedOf};
 use opening::Opened;
-use vec_find::Found;
-
-// Where a vector stands: where its segment's payload begins in the file and how long it is; in that payload its block's offset, count, dim and dtype,
-// and which vector of the block it is. Or nowhere; or the number of a refusal.
-pub enum Located {
-    In {
-        body: usize,
-        length: usize,
-        offset: usize,
-        count: usize,
-        dim: usize,
-        dtype: u8,
-        index: usize,
-    },
-    Nowhere,
-    Refused(u32),
-}
-
-// One segment, whose header begins at p, with a list of our own for the ids of a block: 4 where the hash differs, then the payload's check.
-fn look(file: &[u8], p: usize, id: u64, own: &mut [u64]) -> Located
-    requires { ⌜ (p + (64 + leAt 8 (now file) (p + 0x10)) ≤ length (now file)) × (4096 ≤ length (now own)) ⌝ }
-    ensures { λ r. ⌜ r ≡ lookAt (now (file .entry)) p (leAt 8 (now (file .entry)) (p + 0x10)) id ⌝ }
-{
-    let length = le::u64_at(file, p + 0x10) as usize;
-    if !segment::is_whole(file, p, length) {
-        return Located::Refused(4);
-    }
-    let body = p + 64;
-    let end = body + length;
-    let payload = &file[body..end];
-    let bad = vec_check::check(payload);
-    if bad != 0 {
-        return Located::Refused(bad);
-    }
-    let found = vec_find::find_with(payload, id, own);
-    match found {
-        Found::Missing => Located::Nowhere,
-        Found::At {
-            offset,
-            count,
-            dim,
-            dtype,
-            index,
-        } => Located::In {
-            body,
-            length,
-            offset,
-            count,
-            dim,
-            dtype,
-            index,
-        },
-    }
-}
+use segment_find::Located;
 
 // The search in the directory of the manifest at an offset, down from its last entry.
 fn search(
@@ -88,7 +34,7 @@ fn search(
         if file[manifest + 72 + 48 * i + 41] != 0 {
             continue;
         }
-        let segment = look(file, p, id, own);
+        let segment = segment_find::look(file, p, id, own);
         match segment {
             Located::Nowhere => {}
             Located::Refused(number) => return Located::Refused(number),

@@ -3,7 +3,7 @@
 use mathlib.Core.Path.{sym, _∙_}
 use native.Mathlib.Omega.{arith}
 use Rattle.opening.specs.Directory.{opened-refused, opened-none, opened-at}
-use Rattle.locate.specs.Located.{located-long, located-none}
+use Rattle.segment_find.specs.Located.{located-long, located-none}
 use borrow.Author.Needs.{needs}
 use Rattle.locate.proofs.locate.Statement.{statement}
 use Rattle.locate.proofs.locate.Tie as tie

@@ -5,7 +5,7 @@ use mathlib.Core.Path.{_≡_, sym, _∙_}
 use native.Mathlib.Omega.{arith}
 use lib.ListN.{length}
 use Rattle.opening.specs.Directory.{entry-at}
-use Rattle.locate.specs.Located.{SearchAt, search-first, search-last, search-retired, search-other, search-on, search-stop}
+use Rattle.segment_find.specs.Located.{SearchAt, search-first, search-last, search-retired, search-other, search-on, search-stop}
 use borrow.Author.Needs.{needs}
 use Rattle.locate.proofs.search.Statement.{statement}
 use Rattle.locate.proofs.search.Tie as tie

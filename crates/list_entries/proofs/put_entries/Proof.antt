@@ -1,12 +1,12 @@
--- `listing::put_entries` meets its contract, by how many entries are written.
+-- `list_entries::put_entries` meets its contract, by how many entries are written.
 -- Assumes nothing.
 use Prim.Native.Nat.{_-_}
 use native.Mathlib.Omega.{arith}
 use Rattle.text.specs.Written.{same-room}
 use Rattle.opening.specs.Directory.{entry-at}
-use Rattle.listing.specs.Entries.{EntriesAt, entries-first, entries-next, entries-last}
-use Rattle.listing.proofs.put_entries.Statement.{statement}
-use Rattle.listing.proofs.put_entries.Tie as tie
+use Rattle.list_entries.specs.Entries.{EntriesAt, entries-first, entries-next, entries-last}
+use Rattle.list_entries.proofs.put_entries.Statement.{statement}
+use Rattle.list_entries.proofs.put_entries.Tie as tie
 
 abbrev Inv-loop : tie.InvT-loop
 Inv-loop text₀ at file offsets manifest count end₀ i₀ text end i = EntriesAt file text₀ text at count i end

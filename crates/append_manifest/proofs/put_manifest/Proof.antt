@@ -1,4 +1,4 @@
--- `append_write::put_manifest` meets its contract.
+-- `append_manifest::put_manifest` meets its contract.
 -- Assumes nothing.
 use Prim.Native.Nat.{_-_}
 use mathlib.Core.Path.{_≡_, sym, ap, _∙_}
@@ -8,10 +8,10 @@ use lib.Seq.{length-take-le}
 use Rattle.octets.specs.Round.{round64}
 use Rattle.manifest.specs.Payload.{payloadLength}
 use Rattle.manifest_write.specs.At.{payloadAt, length-payloadAt}
 use Rattle.append_write.specs.Laid.{payload-most, payload-front, manifest-laid}
 use borrow.Author.Needs.{needs}
-use Rattle.append_write.proofs.put_manifest.Statement.{statement}
-use Rattle.append_write.proofs.put_manifest.Tie as tie
+use Rattle.append_manifest.proofs.put_manifest.Statement.{statement}
+use Rattle.append_manifest.proofs.put_manifest.Tie as tie
 
 slice-aggregate-put-payload : tie.Need-slice-aggregate-put-payload
 slice-aggregate-put-payload c = search needs

@@ -24,8 +24,8 @@ use Rattle.vec_find.specs.Found.{foundOf}
 use Rattle.vec_find.specs.declared.Found.the-variants.{At, Missing as NotFound}
 use Rattle.reading.specs.Live.{liveOf, vectorsOf, searchOrder, orderOf, order-all, order-retired, order-other, order-here}
 use Rattle.reading.specs.Answers.{Hit, Held, Missing, Bad, hitOf, lookIn, orElse, searchIn, hitFound, hitIn}
-use Rattle.locate.specs.declared.Located.{Located}
-use Rattle.locate.specs.declared.Located.the-variants.{In, Nowhere, Refused}
+use Rattle.segment_find.specs.declared.Located.{Located}
+use Rattle.segment_find.specs.declared.Located.the-variants.{In, Nowhere, Refused}
 
 unfoldable pub locatedOf : Hit → Located
 locatedOf (Held l p) = In (l .offset + 64) (length (l .payload)) (p .line .offset) (p .line .count) (p .line .dim) (p .line .dtype) (p .index)

@@ -1,12 +1,12 @@
--- `locate::look` meets its contract, by its ways out.
+-- `segment_find::look` meets its contract, by its ways out.
 -- Assumes nothing.
 use mathlib.Core.Path.{sym, _∙_}
 use native.Mathlib.Omega.{arith}
 use borrow.Author.Tests.{not-true, not-false}
-use Rattle.locate.specs.Located.{look-torn, look-bad, look-missing, look-found}
+use Rattle.segment_find.specs.Located.{look-torn, look-bad, look-missing, look-found}
 use borrow.Author.Needs.{needs}
-use Rattle.locate.proofs.look.Statement.{statement}
-use Rattle.locate.proofs.look.Tie as tie
+use Rattle.segment_find.proofs.look.Statement.{statement}
+use Rattle.segment_find.proofs.look.Tie as tie
 
 add-u64-at : tie.Need-add-u64-at
 add-u64-at c = search needs

@@ -1,8 +1,8 @@
--- `link::id_above` meets its contract, by its ways out.
+-- `header::id_above` meets its contract, by its ways out.
 -- Assumes nothing.
 use Rattle.segment.specs.Ways.{above-first, above-next}
-use Rattle.link.proofs.id_above.Statement.{statement}
-use Rattle.link.proofs.id_above.Tie as tie
+use Rattle.header.proofs.id_above.Statement.{statement}
+use Rattle.header.proofs.id_above.Tie as tie
 
 returns : tie.Need-returns
 returns c = above-first _ _ _ (c .if1 .taken)

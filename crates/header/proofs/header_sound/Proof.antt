@@ -1,4 +1,4 @@
--- `link::header_sound` meets its contract: each test that fails decides, and where all hold the last one does.
+-- `header::header_sound` meets its contract: each test that fails decides, and where all hold the last one does.
 -- Assumes nothing.
 use mathlib.Core.Path.{sym, ap, _∙_}
 use native.Mathlib.Omega.{arith}
@@ -9,8 +9,8 @@ use Rattle.segment.specs.Header.{flagsHeld}
 use Rattle.segment.specs.Step.{leastId}
 use Rattle.segment.specs.Ways.{head-fails, head-holds}
 use borrow.Author.Needs.{needs}
-use Rattle.link.proofs.header_sound.Statement.{statement}
-use Rattle.link.proofs.header_sound.Tie as tie
+use Rattle.header.proofs.header_sound.Statement.{statement}
+use Rattle.header.proofs.header_sound.Tie as tie
 
 slice-aggregate-same : tie.Need-slice-aggregate-same
 slice-aggregate-same c = sym (length-take-le 4 (c .before .before .args .h .now) (omega arith))

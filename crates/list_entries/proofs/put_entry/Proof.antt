@@ -1,11 +1,11 @@
--- `listing::put_entry` meets its contract: the word for either state.
+-- `list_entries::put_entry` meets its contract: the word for either state.
 -- Assumes nothing.
 use mathlib.Core.Path.{refl}
 use native.Mathlib.Omega.{arith}
 use Rattle.text.specs.Text.{ascii}
 use Rattle.listing.specs.Lines.{state-live, state-retired}
-use Rattle.listing.proofs.put_entry.Statement.{statement}
-use Rattle.listing.proofs.put_entry.Tie as tie
+use Rattle.list_entries.proofs.put_entry.Statement.{statement}
+use Rattle.list_entries.proofs.put_entry.Tie as tie
 
 slice-aggregate-put-segment : tie.Need-slice-aggregate-put-segment
 slice-aggregate-put-segment c = refl

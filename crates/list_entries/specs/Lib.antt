@@ -1,0 +1,2 @@
+-- The lister's lines of a manifest's directory.
+pub mod Entries

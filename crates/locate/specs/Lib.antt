@@ -1,2 +1,0 @@
--- Where the vector with an id stands in a file.
-pub mod Located
