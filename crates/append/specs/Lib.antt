@@ -1,4 +1,4 @@
--- Appending: the ways out of the function, and what it knows of the file when it writes.
+-- Appending: the ways out of the function, the entries read and their states after retirement.
 pub mod Entries
 pub mod Retiring
 pub mod Ways

@@ -1,5 +1,5 @@
-// What an append writes: the bodies of a batch as segments, and the manifest behind them. The part of the buffer from a segment's place on is handed
-// to the writer of segments.
+// The bodies of a batch written as segments, and where they end. The part of the buffer from a segment's place on is handed to the writer of
+// segments.
 ghost use mathlib.Core.Path.{_≡_};
 ghost use mathlib.Core.Bool.{true};
 ghost use Prim.Native.Nat.{_+_, _≤_, _<_, _^_};

@@ -1,4 +1,4 @@
-// The check of a batch, which must have the form whole before an append takes anything of it; and the check of its vector bodies.
+// The check of a batch, which must have the form whole before an append takes anything of it.
 ghost use mathlib.Core.Path.{_≡_};
 ghost use Prim.Native.Nat.{_<_};
 ghost use lib.ListN.{length};

@@ -1,2 +1,2 @@
--- The vector bodies of a batch: the number of the first bad one.
+-- What the vector bodies of a batch are refused with, body by body.
 pub mod Vectors

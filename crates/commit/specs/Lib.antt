@@ -1,4 +1,4 @@
--- The last part of an append, behind the tests of the file, the batch and the ids: the limits, then all is written.
+-- The last part of an append: what it answers and writes, what it knows of the file, and its ways out.
 pub mod Answer
 pub mod Late
 pub mod Base

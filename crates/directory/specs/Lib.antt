@@ -1,3 +1,3 @@
--- The directory of a file's manifest: the entry with an index, read off the segment's own header.
+-- What the directory answers for an index, and the ways to it.
 pub mod Entry
 pub mod EntryLaws

@@ -1,2 +1,2 @@
--- The ids of a map with differences taken apart.
+-- What a varint of a delta map says as the next id.
 pub mod Next

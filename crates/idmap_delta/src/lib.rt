@@ -1,4 +1,4 @@
-// The ids of a map with differences taken apart.
+// The ids of a delta map, whose head is read already: restart offsets, and a varint for each id.
 ghost use mathlib.Core.Path.{_≡_};
 ghost use Prim.Native.Nat.{_+_, _≤_, _<_};
 ghost use lib.ListN.{length, drop};

@@ -1,2 +1,2 @@
--- The lister's lines of a manifest's directory.
+-- The lines of a directory, entry by entry.
 pub mod Entries

@@ -1,2 +1,2 @@
--- The lister's whole text about a file, written at the front of a buffer.
+-- The laws by which the whole text about a file is written.
 pub mod Whole

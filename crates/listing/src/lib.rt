@@ -1,4 +1,4 @@
-// The lines of the lister's text: a segment's, and those of a directory's entries.
+// A line of the lister's text: a segment's columns, its check and its state.
 ghost use mathlib.Core.List.{_++_};
 ghost use Prim.Native.Nat.{_+_, _≤_};
 ghost use lib.ListN.{length};

@@ -1,3 +1,3 @@
--- Where a segment's payload stands in a file, by the segment's id.
+-- What a place of a payload promises, and the search for it.
 pub mod Place
 pub mod Find

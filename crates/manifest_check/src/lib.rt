@@ -1,5 +1,4 @@
-// Whether a link is a confirmed manifest. Its payload is written anew from the headers of the links before it, with the states that it says, and
-// compared. Cheap tests come first: a file with many links of type 0x05 costs a test of the length for most of them.
+// The states of a manifest's entries: which an entry may have, and as they stand in a payload.
 ghost use mathlib.Core.Path.{_≡_};
 ghost use Prim.Native.Nat.{_+_, _*_, _≤_};
 ghost use lib.ListN.{length, drop};

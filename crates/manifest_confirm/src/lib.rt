@@ -1,4 +1,5 @@
-// The test that a manifest is confirmed: its payload is written anew out of the headers in the file and compared.
+// Whether a link is a confirmed manifest. Its payload is written anew from the headers of the links before it, with the states that it says, and
+// compared. Cheap tests come first: a file with many links of type 0x05 costs a test of the length for most of them.
 ghost use mathlib.Core.Path.{_≡_};
 ghost use Prim.Native.Nat.{_+_, _*_, _≤_};
 ghost use lib.ListN.{length, take};

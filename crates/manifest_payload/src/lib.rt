@@ -1,4 +1,4 @@
-// A manifest's payload written: the entries, then the root behind them, with its checksum.
+// A manifest's payload written: its record of the entries, and the root behind it with its checksum.
 ghost use mathlib.Core.Path.{_≡_};
 ghost use Prim.Native.Nat.{_+_, _-_, _*_, _≤_, _<_, _^_};
 ghost use lib.ListN.{length, replicate};

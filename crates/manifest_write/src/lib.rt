@@ -1,4 +1,4 @@
-// A manifest's payload, written from the file's own headers: an entry is copied from the header that stands at the link's place.
+// A manifest's entries, written from the file's own headers: an entry is copied from the header that stands at the link's place.
 ghost use mathlib.Core.Path.{_≡_};
 ghost use mathlib.Core.List.{[], _∷_};
 ghost use Prim.Native.Nat.{_+_, _*_, _≤_, _<_};

@@ -1,4 +1,4 @@
--- What opening answers, and the directory's entry with an index.
+-- What opening answers, and what it knows of the directory.
 pub mod Candidate
 pub mod Opened
 pub mod Directory

@@ -1,4 +1,4 @@
-// Segments of the file: a sound header, the link that it begins, and whether that link is whole.
+// Segments of the file: the types and flags that a header may have, the content hash, and whether a link is whole.
 ghost use mathlib.Core.Path.{_≡_};
 ghost use Prim.Native.Nat.{_+_, _≤_};
 ghost use lib.ListN.{length};

@@ -1,4 +1,4 @@
-// Unsigned LEB128 written.
+// Unsigned LEB128 of a `u64` written in its shortest form, and how many bytes that takes.
 ghost use mathlib.Core.Path.{_≡_};
 ghost use Prim.Native.Nat.{_+_, _≤_, _<_};
 ghost use lib.ListN.{length};

@@ -1,2 +1,2 @@
--- A block of a payload checked: its columns, its id map and its checksum.
+-- What the check of a block answers.
 pub mod Block

@@ -1,2 +1,2 @@
--- What the checks of a VEC_SEG payload answer.
+-- What the check of the blocks answers, block by block.
 pub mod Turn

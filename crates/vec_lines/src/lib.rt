@@ -1,4 +1,4 @@
-// The lines of a payload's block directory: their bounds.
+// The lines of a payload's block directory checked: count, dim and dtype of each block.
 ghost use mathlib.Core.Path.{_≡_};
 ghost use Prim.Native.Nat.{_+_, _*_, _≤_};
 ghost use lib.ListN.{length, drop};

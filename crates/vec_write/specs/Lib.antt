@@ -1,2 +1,2 @@
--- The vector writer: what it refuses and accepts, how long a payload is, and what each of its steps leaves in the buffer.
+-- The vector writer: what it refuses and accepts.
 pub mod Refusal
