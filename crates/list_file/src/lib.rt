@@ -4,7 +4,8 @@ ghost use Rattle.answers.specs.Write.{writeAnswer, writeBuffer};
 ghost use Rattle.listing.specs.Listing.{listText};
 use answers::Wrote;
 
-// The same at the front of a buffer; 9 where it has no room. The text is put together in an array of our own, since a refusal changes no byte.
+// The text about a file at the front of a buffer, and its length; 9 where there is no room. It is put together in an array of our own, since a refusal
+// changes no byte.
 pub fn list(file: &[u8], buffer: &mut [u8]) -> Wrote
     ensures { λ r. ⌜ r ≡ writeAnswer 0 (listText (now (file .entry))) (now (buffer .entry)) ⌝ }
     ensures { λ _. ⌜ now (buffer .exit) ≡ writeBuffer 0 (listText (now (file .entry))) (now (buffer .entry)) ⌝ }
