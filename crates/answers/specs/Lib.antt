@@ -2,3 +2,4 @@
 pub mod Answer
 pub mod Out
 pub mod Write
+pub mod limits

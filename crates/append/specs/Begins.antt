@@ -9,22 +9,22 @@ use native.Mathlib.Omega.{arith}
 use lib.ListN.{length, take, replicate, length-append, replicate-append-replicate}
 use lib.Seq.{take-take, take-append-add, length-take-le}
 use Rattle.octets.specs.Zero.{zeros-front}
-use Rattle.limits.specs.Limits.{maxEntries}
-use Rattle.le.specs.Le.{Bytes}
-use Rattle.chain.specs.Last.{Found, upTo}
+use Rattle.answers.specs.limits.Limits.{maxEntries}
+use Rattle.octets.specs.le.Le.{Bytes}
+use Rattle.segment.specs.chain.Last.{Found, upTo}
 use Rattle.segment.specs.Header.{Link, size}
 use Rattle.segment.specs.Chained.{offsetsOf}
-use Rattle.chain_index.specs.Offsets.{most}
+use Rattle.segment.specs.index.Offsets.{most}
 use Rattle.manifest.specs.Opening.{opened, states}
-use Rattle.opening.specs.Directory.{ManifestAt, Indexed, kept-offsets, manifest-room}
+use Rattle.opening.specs.Indexed.{ManifestAt, Indexed, kept-offsets, manifest-room}
 use Rattle.batch.specs.Form.{Body}
 use Rattle.appending.specs.Retire.{retirable, retireHeld, retired}
 use Rattle.appending.specs.Append.{keptLinks, startOf, nextId, oldLinks, oldStates, keptStates, newCount, newStates}
 use Rattle.appending.specs.States.{retired-length}
 use Rattle.appending.specs.Opens.{kept}
 use Rattle.appending.specs.Buffer.{start-inside}
-use Rattle.commit.specs.Late.{nextOf}
-use Rattle.commit.specs.Base.{Base, kept-opens}
+use Rattle.append.specs.commit.Late.{nextOf}
+use Rattle.append.specs.commit.Base.{Base, kept-opens}
 
 -- ---- an empty file
 

@@ -8,12 +8,12 @@ use native.Mathlib.Numerals.{add-one}
 use lib.ListN.{length, take, drop, getD, set, length-map, length-set}
 use lib.Seq.{take-suc, take-length, length-take-le, getD-drop, drop-drop}
 use Rattle.octets.specs.Over.{over, over-none, over-front}
-use Rattle.le.specs.Le.{leAt, leOf}
-use Rattle.chain.specs.Chain.{All}
+use Rattle.octets.specs.le.Le.{leAt, leOf}
+use Rattle.segment.specs.chain.Chain.{All}
 use Rattle.segment.specs.Header.{Link}
 use Rattle.segment.specs.Laws.{linkFront, Lies, lies}
 use Rattle.segment.specs.Chained.{offsetsOf}
-use Rattle.manifest_write.specs.Links.{Lying}
+use Rattle.confirm.specs.entries.Links.{Lying}
 
 unfoldable pub idsAt : List ℕ → List ℕ → List ℕ
 idsAt f os = map (λ o. leAt 8 f (o + 0x08)) os

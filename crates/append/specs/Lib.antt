@@ -3,3 +3,7 @@ pub mod Entries
 pub mod Retiring
 pub mod Ways
 pub mod Begins
+pub mod bodies
+pub mod commit
+pub mod retire
+pub mod vectors

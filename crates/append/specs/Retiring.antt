@@ -9,20 +9,20 @@ use lib.ListN.{length, take, drop, replicate, length-map}
 use lib.Seq.{drop-at}
 use Rattle.octets.specs.Over.{over}
 use Rattle.octets.specs.Zero.{zeros-left}
-use Rattle.chain.specs.Chain.{All}
+use Rattle.segment.specs.chain.Chain.{All}
 use Rattle.segment.specs.Header.{Link}
 use Rattle.segment.specs.Chained.{offsetsOf, Rising, chain-rising}
 use Rattle.manifest.specs.Sized.{length-statesBy}
 use Rattle.manifest.specs.Payload.{entrySize, statesIn}
 use Rattle.manifest.specs.Opening.{opened, states}
-use Rattle.manifest_write.specs.At.{Inside}
-use Rattle.manifest_write.specs.Links.{Lying, chain-lying, lying-inside}
-use Rattle.opening.specs.Directory.{ManifestAt}
+use Rattle.confirm.specs.entries.At.{Inside}
+use Rattle.confirm.specs.entries.Links.{Lying, chain-lying, lying-inside}
+use Rattle.opening.specs.Indexed.{ManifestAt}
 use Rattle.appending.specs.Retire.{retireHeld, retired}
 use Rattle.appending.specs.Append.{oldLinks, oldStates}
 use Rattle.appending.specs.Opens.{rising-front}
-use Rattle.append_write.specs.Laid.{payload-front}
-use Rattle.retire.specs.Marks.{retireHeldBy, retiredBy, Rises, held-same, retired-same, rises-links}
+use Rattle.append.specs.bodies.Laid.{payload-front}
+use Rattle.append.specs.retire.Marks.{retireHeldBy, retiredBy, Rises, held-same, retired-same, rises-links}
 use Rattle.append.specs.Entries.{idsAt, kindsAt, ids-lying, kinds-lying}
 
 module _ (f : List ℕ) (manifest count : ℕ) (m : ManifestAt f manifest count) where

@@ -8,20 +8,20 @@ use mathlib.Core.List.{List, []}
 use native.Mathlib.Omega.{arith}
 use lib.ListN.{length, take}
 use borrow.Author.Tests.{lt-ltb, le-ltb, ltb-false}
-use Rattle.limits.specs.Limits.{maxFile, maxEntries}
+use Rattle.answers.specs.limits.Limits.{maxFile, maxEntries}
 use Rattle.answers.specs.Answer.{Answer, Accepted, Refusal}
 use Rattle.octets.specs.Over.{over}
-use Rattle.chain.specs.Last.{Found}
+use Rattle.segment.specs.chain.Last.{Found}
 use Rattle.segment.specs.Header.{Link}
 use Rattle.manifest.specs.Opening.{opened}
 use Rattle.batch.specs.Form.{batchHeld, bodiesOf}
 use Rattle.appending.specs.Retire.{retireHeld}
 use Rattle.appending.specs.Append.{startOf, oldLinks, oldStates, newCount, newStates, newPayload, newBytes, vectorsBad, checked, isNone, appendChecks, answerOn, appendAnswer, bufferOn, appendBuffer, Appends}
 use Rattle.appending.specs.Accepts.{Passed, passed, empty-passes}
-use Rattle.commit.specs.declared.Appended.{Appended}
-use Rattle.commit.specs.declared.Appended.the-variants.{Refused}
-use Rattle.commit.specs.Answer.{appendedAnswer, batchNumber}
-use Rattle.commit.specs.Late.{lateChecks, lateAnswer, bytesWith, bufferWith, lateBuffer}
+use Rattle.append.specs.declared.commit.Appended.{Appended}
+use Rattle.append.specs.declared.commit.Appended.the-variants.{Refused}
+use Rattle.append.specs.commit.Answer.{appendedAnswer, batchNumber}
+use Rattle.append.specs.commit.Late.{lateChecks, lateAnswer, bytesWith, bufferWith, lateBuffer}
 
 module _ (old : List ℕ) (n : ℕ) (batch ids : List ℕ) (ts : ℕ) where
   -- a refusal leaves the buffer

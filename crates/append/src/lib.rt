@@ -1,29 +1,35 @@
 // Appending a batch to a file. Every test is made before the first byte is written: a refusal leaves the buffer as it was.
+pub mod bodies;
+pub mod commit;
+pub mod form;
+pub mod new_manifest;
+pub mod retire;
+pub mod vectors;
 ghost use mathlib.Core.Path.{_≡_};
 ghost use mathlib.Core.Bool.{true, not};
 ghost use mathlib.Core.List.{_++_};
 ghost use Prim.Native.Nat.{_+_, _-_, _≤_, _<_};
 ghost use lib.ListN.{length, replicate};
 ghost use Rattle.octets.specs.Over.{over};
-ghost use Rattle.chain_index.specs.Offsets.{most};
+ghost use Rattle.segment.specs.index.Offsets.{most};
 ghost use Rattle.manifest.specs.Opening.{opened};
-ghost use Rattle.manifest_write.specs.At.{Inside};
-ghost use Rattle.opening.specs.Directory.{ManifestAt, Indexed};
+ghost use Rattle.confirm.specs.entries.At.{Inside};
+ghost use Rattle.opening.specs.Indexed.{ManifestAt, Indexed};
 ghost use Rattle.appending.specs.Retire.{retireHeld, retired};
 ghost use Rattle.appending.specs.Append.{oldLinks, oldStates, Appends};
-ghost use Rattle.commit.specs.Answer.{appendedAnswer, batchNumber};
+ghost use Rattle.append.specs.commit.Answer.{appendedAnswer, batchNumber};
 ghost use Rattle.append.specs.Entries.{idsAt, kindsAt};
-use commit::Appended;
+use crate::commit::Appended;
 use opening::Opened;
 
 // The number that a batch is refused with: 10 for its form, then that of its first bad vector body; 0 where it is taken.
 fn batch_number(batch: &[u8]) -> u32
     ensures { λ r. ⌜ r ≡ batchNumber (now (batch .entry)) ⌝ }
 {
-    if !batch_check::check(batch) {
+    if !crate::form::check(batch) {
         return 10;
     }
-    batch_vectors::vectors_bad(batch)
+    crate::vectors::vectors_bad(batch)
 }
 
 // The ids and types of the links at some offsets, at the front of two lists.
@@ -36,7 +42,7 @@ fn read_entries(file: &[u8], offsets: &[u64], entry_ids: &mut [u64], kinds: &mut
     let mut i: usize = 0;
     while i < offsets.len() {
         let offset = offsets[i] as usize;
-        entry_ids[i] = le::u64_at(file, offset + 0x08);
+        entry_ids[i] = octets::le::u64_at(file, offset + 0x08);
         kinds[i] = file[offset + 0x05];
         i += 1;
     }
@@ -58,12 +64,12 @@ fn retire_states(
     ensures { λ r. ⌜ (r ≡ true → now (states .exit) ≡ retired (oldLinks (opened (now (file .entry)))) (oldStates (opened (now (file .entry)))) (now (ids .entry)) ++ replicate (1024 - count) 0) ⌝ }
 {
     let body = manifest + 64;
-    let end = body + le::u64_at(file, manifest + 0x10) as usize;
-    manifest_check::read_states(states, &file[body..end], count);
+    let end = body + octets::le::u64_at(file, manifest + 0x10) as usize;
+    confirm::states::read_states(states, &file[body..end], count);
     let mut entry_ids = [0u64; 1024];
     let mut kinds = [0u8; 1024];
     read_entries(file, &offsets[..count], &mut entry_ids, &mut kinds);
-    retire::mark(
+    crate::retire::mark(
         &entry_ids[..count],
         &kinds[..count],
         &mut states[..count],
@@ -80,7 +86,7 @@ pub fn append(buf: &mut [u8], n: u64, batch: &[u8], ids: &[u64], timestamp: u64)
     if n > buf.len() as u64 {
         return Appended::Refused(9);
     }
-    if n > limits::MAX_FILE as u64 {
+    if n > answers::limits::MAX_FILE as u64 {
         return Appended::Refused(1);
     }
     let size = n as usize;
@@ -100,7 +106,7 @@ pub fn append(buf: &mut [u8], n: u64, batch: &[u8], ids: &[u64], timestamp: u64)
                 return Appended::Refused(11);
             }
             let states = [0u8; 1024];
-            commit::finish(buf, batch, 0, 0, true, 0, timestamp, &mut offsets, &states)
+            crate::commit::finish(buf, batch, 0, 0, true, 0, timestamp, &mut offsets, &states)
         }
         Opened::At {
             offset,
@@ -118,7 +124,7 @@ pub fn append(buf: &mut [u8], n: u64, batch: &[u8], ids: &[u64], timestamp: u64)
                 return Appended::Refused(11);
             }
             let start = end;
-            commit::finish(
+            crate::commit::finish(
                 buf,
                 batch,
                 start,

@@ -10,9 +10,9 @@ use lib.Dec.{eqb, ltb}
 use lib.ListN.{length, take, replicate}
 use Rattle.octets.specs.Round.{round64}
 use Rattle.octets.specs.Over.{over}
-use Rattle.limits.specs.Limits.{maxFile, maxEntries}
+use Rattle.answers.specs.limits.Limits.{maxFile, maxEntries}
 use Rattle.answers.specs.Answer.{Answer, Accepted, Refusal}
-use Rattle.chain.specs.Last.{Found, upTo}
+use Rattle.segment.specs.chain.Last.{Found, upTo}
 use Rattle.segment.specs.Header.{Link, size}
 use Rattle.segment.specs.Written.{segment, linkOf}
 use Rattle.manifest.specs.Payload.{manifestKind, confirmed, manifestPayload, payloadLength}

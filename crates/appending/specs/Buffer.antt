@@ -10,8 +10,8 @@ use lib.Seq.{take-take, take-length, take-at, drop-at, take-append-add, take-app
 use Rattle.octets.specs.Over.{over}
 use Rattle.octets.specs.Round.{round64}
 use Rattle.answers.specs.Answer.{Accepted}
-use Rattle.chain.specs.Last as last
-use Rattle.chain.specs.Last.{Found, upTo}
+use Rattle.segment.specs.chain.Last as last
+use Rattle.segment.specs.chain.Last.{Found, upTo}
 use Rattle.segment.specs.Header.{Link, start, reader, size}
 use Rattle.segment.specs.Laws.{segment-format}
 use Rattle.segment.specs.Written.{linkOf, linkOf-size}

@@ -6,16 +6,16 @@ use mathlib.Core.List.{List, [], _∷_, _++_, append-assoc}
 use native.Mathlib.Omega.{arith}
 use lib.ListN.{length, drop, getD, replicate, length-append, length-replicate, length-drop}
 use lib.Seq.{getD-append-add, length-take-le}
-use Rattle.le.specs.Le.{leBytes}
-use Rattle.chain.specs.Chain.{All, all-map}
+use Rattle.octets.specs.le.Le.{leBytes}
+use Rattle.segment.specs.chain.Chain.{All, all-map}
 use Rattle.segment.specs.Header.{Link}
 use Rattle.segment.specs.Laws.{linkFront, Lies, lies, size-least}
 use Rattle.segment.specs.Chained.{chain}
 use Rattle.segment.specs.Written.{linkOf, hash-length}
 use Rattle.manifest.specs.Sized.{length-entriesOf, statesBy-entries}
 use Rattle.manifest.specs.Payload.{entrySize, entryBytes, entries, recordEnd, recordBytes, root, payloadLength, manifestPayload, statesIn}
-use Rattle.manifest_write.specs.At.{record-ge, length-root}
-use Rattle.manifest_write.specs.Links.{Lying, chain-lying}
+use Rattle.confirm.specs.entries.At.{record-ge, length-root}
+use Rattle.confirm.specs.entries.Links.{Lying, chain-lying}
 use Rattle.batch.specs.Form.{Body}
 use Rattle.appending.specs.Append.{bodySize, bodyLinks}
 

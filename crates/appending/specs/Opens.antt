@@ -11,11 +11,11 @@ use lib.ListN.{length, take, drop, replicate, length-append, length-replicate}
 use borrow.Author.Tests.{le-leb}
 use Rattle.octets.specs.Round.{round64, round64-ge}
 use Rattle.octets.specs.Zero.{sameBytes, equal-same, and-split}
-use Rattle.limits.specs.Limits.{maxFile, maxEntries}
-use Rattle.chain.specs.Chain.{All, all-append, Exact, afters, afters-append, exact-append, sizes}
-use Rattle.chain.specs.Last as last
-use Rattle.chain.specs.Last.{Found, upTo, Stands, last-stands}
-use Rattle.chain.specs.Walk.{sizes-append}
+use Rattle.answers.specs.limits.Limits.{maxFile, maxEntries}
+use Rattle.segment.specs.chain.Chain.{All, all-append, Exact, afters, afters-append, exact-append, sizes}
+use Rattle.segment.specs.chain.Last as last
+use Rattle.segment.specs.chain.Last.{Found, upTo, Stands, last-stands}
+use Rattle.segment.specs.chain.Walk.{sizes-append}
 use Rattle.segment.specs.Header.{Link, start, reader, size, whole, typeHeld, flagsHeld}
 use Rattle.segment.specs.Laws.{segment-format, afters-at}
 use Rattle.segment.specs.Chained.{chain, link-place, Rising, chain-rising}

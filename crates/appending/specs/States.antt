@@ -10,7 +10,7 @@ use lib.Dec.{eqb, leb}
 use lib.ListN.{length, drop, getD, replicate}
 use borrow.Author.Tests.{eq-eqb, ne-eqb, eqb-true}
 use Rattle.octets.specs.Zero.{and-split}
-use Rattle.chain.specs.Chain.{All}
+use Rattle.segment.specs.chain.Chain.{All}
 use Rattle.segment.specs.Header.{Link}
 use Rattle.segment.specs.Chained.{Rising}
 use Rattle.manifest.specs.Payload.{manifestKind, stateHeld, statesHeld}

@@ -8,12 +8,12 @@ use native.Mathlib.Omega.{arith}
 use lib.Bits.{bitAnd, and-le-r}
 use lib.Dec.{eqb, leb}
 use lib.ListN.{length, take, drop, getD, length-append}
-use Rattle.le.specs.Le.{leAt}
+use Rattle.octets.specs.le.Le.{leAt}
 use borrow.Author.Tests.{eqb-true, not-true}
 use Rattle.octets.specs.Round.{round64, round64-ge}
 use Rattle.octets.specs.Zero.{allZero, and-split}
-use Rattle.limits.specs.Limits.{maxBodies, maxBatch}
-use Rattle.chain.specs.Chain.{All, Exact, done, afters, exact-append}
+use Rattle.answers.specs.limits.Limits.{maxBodies, maxBatch}
+use Rattle.segment.specs.chain.Chain.{All, Exact, done, afters, exact-append}
 use Rattle.segment.specs.Header.{Link, reader, size, typeHeld, flagsHeld}
 use Rattle.segment.specs.Laws.{segment-format}
 use Rattle.segment.specs.Written.{segment, linkOf, linkOf-size, segment-length}

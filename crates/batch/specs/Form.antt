@@ -6,8 +6,8 @@ use mathlib.Core.List.{List, [], _∷_}
 use lib.Dec.{eqb, leb}
 use lib.ListN.{length, take, drop, getD}
 use Rattle.octets.specs.Zero.{allZero}
-use Rattle.le.specs.Le.{leAt}
-use Rattle.limits.specs.Limits.{maxBodies, maxBatch}
+use Rattle.octets.specs.le.Le.{leAt}
+use Rattle.answers.specs.limits.Limits.{maxBodies, maxBatch}
 use Rattle.segment.specs.Header.{typeHeld, flagsHeld}
 use Rattle.manifest.specs.Payload.{manifestKind}
 

@@ -13,8 +13,8 @@ use lib.Seq.{length-take-le, getD-take, getD-drop, drop-drop}
 use borrow.Author.Tests.{le-leb, lt-leb, eq-eqb, ne-eqb, leb-true, eqb-true}
 use Rattle.octets.specs.Zero.{allZero, and-split}
 use Rattle.octets.specs.Parts.{part-front}
-use Rattle.le.specs.Le.{leAt}
-use Rattle.limits.specs.Limits.{maxBodies, maxBatch}
+use Rattle.octets.specs.le.Le.{leAt}
+use Rattle.answers.specs.limits.Limits.{maxBodies, maxBatch}
 use Rattle.segment.specs.Header.{typeHeld, flagsHeld}
 use Rattle.batch.specs.Form.{Body, lineLength, bodyKindHeld, lineHeld, linesHeld, bodyCount, bodiesAt, batchHeld, bodiesFrom, bodiesOf}
 

@@ -7,11 +7,11 @@ use mathlib.Core.Option.{Option, none, some}
 use mathlib.Core.List.{List, [], _∷_, _++_, map, map-append, append-assoc, append-nil}
 use native.Mathlib.Omega.{arith}
 use lib.ListN.{length, take, drop, getD, replicate}
-use Rattle.limits.specs.Limits.{maxFile}
+use Rattle.answers.specs.limits.Limits.{maxFile}
 use Rattle.answers.specs.Answer.{Answer, Accepted, Refusal}
-use Rattle.chain.specs.Chain.{walk, walkF}
-use Rattle.chain.specs.Last as last
-use Rattle.chain.specs.Last.{Found, upTo}
+use Rattle.segment.specs.chain.Chain.{walk, walkF}
+use Rattle.segment.specs.chain.Last as last
+use Rattle.segment.specs.chain.Last.{Found, upTo}
 use Rattle.segment.specs.Header.{Link, size}
 use Rattle.segment.specs.Written.{linkOf, linkOf-size}
 use Rattle.manifest.specs.Sized.{length-statesBy}

@@ -9,14 +9,14 @@ use mathlib.Core.List.{List, [], _∷_, _++_}
 use native.Mathlib.Omega.{arith}
 use lib.Dec.{leb}
 use lib.ListN.{length, take, drop, getD, length-map, length-append}
-use Rattle.limits.specs.Limits.{maxFile}
+use Rattle.answers.specs.limits.Limits.{maxFile}
 use Rattle.answers.specs.Answer.{Answer, Accepted, Refusal}
-use Rattle.chain.specs.Chain.{All}
-use Rattle.chain.specs.Last.{Found, upTo}
+use Rattle.segment.specs.chain.Chain.{All}
+use Rattle.segment.specs.chain.Last.{Found, upTo}
 use Rattle.segment.specs.Header.{Link, size}
-use Rattle.chain_index.specs.Offsets.{noLink}
+use Rattle.segment.specs.index.Offsets.{noLink}
 use Rattle.manifest.specs.Opening.{opened, states, tried, openFound, openAnswer, at-within}
-use Rattle.directory.specs.Entry.{entryValues, entryFound, entryAnswer}
+use Rattle.opening.specs.directory.Entry.{entryValues, entryFound, entryAnswer}
 use Rattle.reading.specs.Placed.{InFile, before-in}
 use Rattle.batch.specs.Form.{bodiesOf}
 use Rattle.appending.specs.Append.{startOf, oldStates, keptLinks, newEnd, bufferOn, appendBuffer, Appends}

@@ -10,13 +10,13 @@ use lib.Dec.{ltb}
 use lib.ListN.{length, take, getD, length-take, length-append}
 use lib.Seq.{take-take, length-take-le}
 use borrow.Author.Tests.{lt-ltb, le-ltb, ltb-false}
-use Rattle.limits.specs.Limits.{maxFile}
+use Rattle.answers.specs.limits.Limits.{maxFile}
 use Rattle.answers.specs.Answer.{Answer, Accepted, Refusal}
-use Rattle.chain.specs.Last.{Found}
+use Rattle.segment.specs.chain.Last.{Found}
 use Rattle.segment.specs.Header.{Link}
 use Rattle.segment.specs.Laws.{size-least}
 use Rattle.manifest.specs.Opening.{opened, openFound, openAnswer, at-within, answers-alike}
-use Rattle.directory.specs.Entry.{entryFound, entryAnswer}
+use Rattle.opening.specs.directory.Entry.{entryFound, entryAnswer}
 use Rattle.reading.specs.Answers.{NotHanded, partFound, partIn, Bad, hitFound, hitIn, vectorHit, bufferHit, vectorCase, vectorAfter, valueHit, valueIn}
 use Rattle.batch.specs.Form.{bodiesOf}
 use Rattle.appending.specs.Append.{startOf, newEnd, newBytes, checked, isNone, appendChecks, answerOn, appendAnswer, Appends}

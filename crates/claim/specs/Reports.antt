@@ -8,7 +8,7 @@ use mathlib.Core.List.{List, [], _∷_, _++_, map, map-append, append-assoc, app
 use native.Mathlib.Omega.{arith}
 use lib.ListN.{length, length-map}
 use Rattle.answers.specs.Answer.{Answer, Accepted, Refusal}
-use Rattle.chain.specs.Chain.{All, all-map}
+use Rattle.segment.specs.chain.Chain.{All, all-map}
 use Rattle.segment.specs.Header.{Link, size}
 use Rattle.segment.specs.Written.{linkOf}
 use Rattle.manifest.specs.Opening.{opened}

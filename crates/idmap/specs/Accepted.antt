@@ -8,7 +8,7 @@ use native.Mathlib.Omega.{arith}
 use lib.Dec.{eqb, leb, ltb}
 use lib.ListN.{length}
 use borrow.Author.Tests.{ne-eqb, leb-true, ltb-true, eqb-true, eqb-false}
-use Rattle.limits.specs.Limits.{maxVectors}
+use Rattle.answers.specs.limits.Limits.{maxVectors}
 use Rattle.idmap.specs.Encode.{mapHead, rawIds, deltas, restarts, intervalOf, mapBytes, risesFrom, intervalHeld, mapBad}
 use Rattle.octets.specs.Zero.{and-split}
 

@@ -8,8 +8,8 @@ use native.Mathlib.Omega.{arith}
 use lib.Dec.{eqb, leb, ltb}
 use lib.ListN.{length, getD, take, drop, length-append, length-drop}
 use borrow.Author.Tests.{leb-true}
-use Rattle.le.specs.Le.{leOf, leAt}
-use Rattle.limits.specs.Limits.{maxVectors}
+use Rattle.octets.specs.le.Le.{leOf, leAt}
+use Rattle.answers.specs.limits.Limits.{maxVectors}
 use Rattle.varint.specs.declared.Varint.{Varint}
 use Rattle.varint.specs.declared.Varint.the-variants.{Value, Refused as BadVarint}
 use Rattle.varint.specs.Varint.{readVarint}

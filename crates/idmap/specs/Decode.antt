@@ -7,8 +7,8 @@ use mathlib.Core.List.{List, [], _∷_, _++_}
 use lib.Dec.{eqb, leb, ltb}
 use lib.ListN.{length, getD, take, drop}
 use Rattle.octets.specs.Over.{over}
-use Rattle.le.specs.Le.{leOf, leAt}
-use Rattle.limits.specs.Limits.{maxVectors}
+use Rattle.octets.specs.le.Le.{leOf, leAt}
+use Rattle.answers.specs.limits.Limits.{maxVectors}
 use Rattle.answers.specs.declared.Wrote.{Wrote}
 use Rattle.answers.specs.declared.Wrote.the-variants.{Length, Refused}
 use Rattle.varint.specs.declared.Varint.{Varint}

@@ -11,7 +11,7 @@ use lib.Dec.{eqb, leb, ltb}
 use lib.ListN.{length, getD, take, drop, set, length-drop}
 use lib.Seq.{drop-drop, take-suc-set}
 use borrow.Author.Tests.{le-leb, lt-leb, lt-ltb, le-ltb, eq-eqb, ne-eqb}
-use Rattle.le.specs.Le.{leOf, leAt}
+use Rattle.octets.specs.le.Le.{leOf, leAt}
 use Rattle.varint.specs.declared.Varint.{Varint}
 use Rattle.varint.specs.declared.Varint.the-variants.{Value, Refused as BadVarint}
 use Rattle.varint.specs.Varint.{readVarint}

@@ -6,8 +6,8 @@ use mathlib.Core.Bool.{Bool, true, false, cond, _&&_}
 use mathlib.Core.List.{List, [], _∷_, _++_}
 use lib.Dec.{eqb, leb, ltb}
 use lib.ListN.{length}
-use Rattle.le.specs.Le.{leBytes}
-use Rattle.limits.specs.Limits.{maxVectors, defaultInterval}
+use Rattle.octets.specs.le.Le.{leBytes}
+use Rattle.answers.specs.limits.Limits.{maxVectors, defaultInterval}
 use Rattle.varint.specs.Varint.{varintOf}
 
 -- encoding, restart interval, id count

@@ -12,8 +12,8 @@ use lib.ListN.{length, getD, take, drop, length-append, drop-of-length-le}
 use lib.Seq.{drop-cons, take-suc}
 use borrow.Author.Tests.{leb-true}
 use Rattle.octets.specs.Zero.{and-split}
-use Rattle.le.specs.Le.{leBytes}
-use Rattle.le.specs.Laws.{length-leBytes}
+use Rattle.octets.specs.le.Le.{leBytes}
+use Rattle.octets.specs.le.Laws.{length-leBytes}
 use Rattle.varint.specs.Varint.{varintOf}
 use Rattle.idmap.specs.Encode.{mapHead, rawIds, deltaOf, leftAfter, deltas, restartOf, restarts, risesFrom}
 use Rattle.idmap.specs.Decode.{groups}

@@ -10,8 +10,8 @@ use lib.Dec.{eqb, leb, ltb}
 use lib.ListN.{length, getD, take, drop, length-append}
 use lib.Seq.{take-at, drop-at, drop-drop}
 use borrow.Author.Tests.{le-leb, lt-ltb, eq-eqb, leb-true, eqb-true, eqb-false}
-use Rattle.le.specs.Le.{leOf, leAt, leBytes}
-use Rattle.le.specs.Laws.{length-leBytes, leOf-leBytes}
+use Rattle.octets.specs.le.Le.{leOf, leAt, leBytes}
+use Rattle.octets.specs.le.Laws.{length-leBytes, leOf-leBytes}
 use Rattle.varint.specs.declared.Varint.{Varint}
 use Rattle.varint.specs.declared.Varint.the-variants.{Value}
 use Rattle.varint.specs.Varint.{varintOf, readVarint}

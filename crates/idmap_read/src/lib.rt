@@ -1,4 +1,6 @@
 // The id-map reader: the map's length, and its ids at the front of a lent list. Every rule of a map is 5, then a list too short for the ids 9.
+pub mod decode;
+pub mod delta;
 ghost use mathlib.Core.Path.{_≡_};
 ghost use Prim.Native.Nat.{_≤_};
 ghost use lib.ListN.{length, take};
@@ -24,7 +26,7 @@ fn read_through(s: &[u8], count: usize, ids: &mut [u64], own: &mut [u64]) -> Wro
     ensures { λ r. ⌜ r ≡ readAnswer (mapOf count (now (s .entry))) (now (ids .entry)) ⌝ }
     ensures { λ _. ⌜ now (ids .exit) ≡ readBuffer (mapOf count (now (s .entry))) (now (ids .entry)) ⌝ }
 {
-    let m = idmap_decode::decode(s, count, own);
+    let m = crate::decode::decode(s, count, own);
     match m {
         Wrote::Refused(_) => Wrote::Refused(5),
         Wrote::Length(n) => {
@@ -45,7 +47,7 @@ pub fn read(s: &[u8], count: u64, ids: &mut [u64]) -> Wrote
     if count < 1 {
         return Wrote::Refused(5);
     }
-    if count > limits::MAX_VECTORS as u64 {
+    if count > answers::limits::MAX_VECTORS as u64 {
         return Wrote::Refused(5);
     }
     let n = count as usize;

@@ -1,4 +1,6 @@
 // The id-map writer: 14 for input that breaks a rule, then 9 for a buffer without room; else the map, and its length.
+pub mod encode;
+pub mod refusal;
 ghost use mathlib.Core.Path.{_≡_};
 ghost use Prim.Native.Nat.{_+_, _*_, _≤_, _<_};
 ghost use lib.ListN.{length};
@@ -12,7 +14,7 @@ fn interval_of(interval: u64) -> u64
     ensures { λ r. ⌜ r ≡ intervalOf interval ⌝ }
 {
     if interval == 0 {
-        return limits::DEFAULT_INTERVAL;
+        return answers::limits::DEFAULT_INTERVAL;
     }
     interval
 }
@@ -27,7 +29,7 @@ pub fn encoded_len(ids: &[u64], encoding: u64, interval: u64) -> usize
     }
     let r = interval_of(interval) as usize;
     let start = 7 + 4 * ((ids.len() + (r - 1)) / r);
-    start + idmap_encode::deltas_len(ids, r)
+    start + crate::encode::deltas_len(ids, r)
 }
 
 // The map of an accepted input at the front of a buffer that has room for it.
@@ -37,14 +39,14 @@ pub fn put(buf: &mut [u8], ids: &[u64], encoding: u64, interval: u64)
     ensures { λ _. ⌜ now (buf .exit) ≡ over (now (buf .entry)) 0 (mapBytes (now (ids .entry)) encoding interval) ⌝ }
 {
     if encoding == 0 {
-        idmap_encode::put_head(buf, 0, 0, ids.len() as u64);
-        idmap_encode::put_raw(buf, ids);
+        crate::encode::put_head(buf, 0, 0, ids.len() as u64);
+        crate::encode::put_raw(buf, ids);
         return;
     }
     let r = interval_of(interval) as usize;
     let start = 7 + 4 * ((ids.len() + (r - 1)) / r);
-    idmap_encode::put_head(buf, 1, r as u64, ids.len() as u64);
-    idmap_encode::put_deltas(buf, ids, r, start);
+    crate::encode::put_head(buf, 1, r as u64, ids.len() as u64);
+    crate::encode::put_deltas(buf, ids, r, start);
 }
 
 // The map of ids at the front of a buffer, and its length.
@@ -52,7 +54,7 @@ pub fn write(buf: &mut [u8], ids: &[u64], encoding: u64, interval: u64) -> Wrote
     ensures { λ r. ⌜ r ≡ writeAnswer (mapBad (now (ids .entry)) encoding interval) (mapBytes (now (ids .entry)) encoding interval) (now (buf .entry)) ⌝ }
     ensures { λ _. ⌜ now (buf .exit) ≡ writeBuffer (mapBad (now (ids .entry)) encoding interval) (mapBytes (now (ids .entry)) encoding interval) (now (buf .entry)) ⌝ }
 {
-    let bad = idmap_refusal::refusal(ids, encoding, interval);
+    let bad = crate::refusal::refusal(ids, encoding, interval);
     if bad != 0 {
         return Wrote::Refused(bad);
     }

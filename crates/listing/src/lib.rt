@@ -1,45 +1,23 @@
-// A line of the lister's text: a segment's columns, its check and its state.
-ghost use mathlib.Core.List.{_++_};
-ghost use Prim.Native.Nat.{_+_, _≤_};
-ghost use lib.ListN.{length};
-ghost use Rattle.le.specs.Le.{leAt};
-ghost use Rattle.text.specs.Written.{Written};
-ghost use Rattle.listing.specs.Listing.{column, checkWord};
-ghost use Rattle.listing.specs.Lines.{lineAt};
+// The lister: what it prints about a file, as text at the front of a buffer.
+pub mod entries;
+pub mod line;
+pub mod text;
+ghost use mathlib.Core.Path.{_≡_};
+ghost use Rattle.answers.specs.Write.{writeAnswer, writeBuffer};
+ghost use Rattle.listing.specs.line.Listing.{listText};
+use answers::Wrote;
 
-// Two columns.
-fn put_columns(text: &mut [u8], at: usize, x: u64, y: u64) -> usize
-    requires { ⌜ at + 42 ≤ length (now text) ⌝ }
-    ensures { λ r. ⌜ Written (now (text .entry)) (now (text .exit)) at (column x ++ column y) r ⌝ }
-    ensures { λ r. ⌜ r ≤ at + 42 ⌝ }
+// The text about a file at the front of a buffer, and its length; 9 where there is no room. It is put together in an array of our own, since a refusal
+// changes no byte.
+pub fn list(file: &[u8], buffer: &mut [u8]) -> Wrote
+    ensures { λ r. ⌜ r ≡ writeAnswer 0 (listText (now (file .entry))) (now (buffer .entry)) ⌝ }
+    ensures { λ _. ⌜ now (buffer .exit) ≡ writeBuffer 0 (listText (now (file .entry))) (now (buffer .entry)) ⌝ }
 {
-    let next = text::put_number(text, at, b"", x, b" ");
-    text::put_number(text, next, b"", y, b" ")
-}
-
-// Whether a segment is whole, as the end of its line.
-fn put_check(text: &mut [u8], at: usize, whole: bool) -> usize
-    requires { ⌜ at + 5 ≤ length (now text) ⌝ }
-    ensures { λ r. ⌜ Written (now (text .entry)) (now (text .exit)) at (checkWord whole) r ⌝ }
-    ensures { λ r. ⌜ r ≤ at + 5 ⌝ }
-{
-    if whole {
-        return text::put_bytes(text, at, b" ok\n");
+    let mut text = [0u8; 102400];
+    let n = crate::text::put_text(&mut text, file);
+    if n > buffer.len() {
+        return Wrote::Refused(9);
     }
-    text::put_bytes(text, at, b" bad\n")
-}
-
-// The line of the segment whose header begins at p, with the word for its state.
-pub fn put_segment(text: &mut [u8], at: usize, file: &[u8], p: usize, word: &[u8]) -> usize
-    requires { ⌜ p + (64 + leAt 8 (now file) (p + 0x10)) ≤ length (now file) ⌝ }
-    requires { ⌜ (at + 97 ≤ length (now text)) × (length (now word) ≤ 8) ⌝ }
-    ensures { λ r. ⌜ Written (now (text .entry)) (now (text .exit)) at (lineAt (now (file .entry)) p (now (word .entry))) r ⌝ }
-    ensures { λ r. ⌜ r ≤ at + 97 ⌝ }
-{
-    let length = le::u64_at(file, p + 0x10);
-    let kind = file[p + 0x05] as u64;
-    let named = put_columns(text, at, le::u64_at(file, p + 0x08), kind);
-    let placed = put_columns(text, named, p as u64, length);
-    let stated = text::put_bytes(text, placed, word);
-    put_check(text, stated, segment::is_whole(file, p, length as usize))
+    octets::copy(buffer, &text[..n]);
+    Wrote::Length(n)
 }

@@ -10,8 +10,8 @@ use lib.Dec.{leb}
 use lib.ListN.{length, drop}
 use borrow.Author.Tests.{le-leb, lt-leb}
 use Rattle.answers.specs.Answer.{Answer, Accepted, Refusal}
-use Rattle.limits.specs.Limits.{maxFile}
-use Rattle.chain.specs.Last.{Found, openOf}
+use Rattle.answers.specs.limits.Limits.{maxFile}
+use Rattle.segment.specs.chain.Last.{Found, openOf}
 use Rattle.segment.specs.Header.{Link, size, start, reader}
 use Rattle.manifest.specs.Payload.{confirmed, statesIn}
 

@@ -9,8 +9,8 @@ use lib.Dec.{eqb, leb}
 use lib.ListN.{length, drop, replicate}
 use Rattle.octets.specs.Round.{round64}
 use Rattle.octets.specs.Zero.{sameBytes}
-use Rattle.le.specs.Le.{leBytes}
-use Rattle.limits.specs.Limits.{maxEntries}
+use Rattle.octets.specs.le.Le.{leBytes}
+use Rattle.answers.specs.limits.Limits.{maxEntries}
 use Rattle.crc32c.specs.Crc.{crcOf}
 use Rattle.segment.specs.Header.{Link, whole}
 use Rattle.manifest.specs.Sized.{entriesOf, statesBy, recordBy}

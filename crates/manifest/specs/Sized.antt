@@ -9,7 +9,7 @@ use native.Mathlib.Nat.{mul-zero, mul-suc}
 use lib.ListN.{length, take, drop, getD, length-append, List·getD-append}
 use lib.Seq.{getD-drop, drop-at}
 use Rattle.octets.specs.Round.{round64, round64-ge}
-use Rattle.chain.specs.Chain.{All}
+use Rattle.segment.specs.chain.Chain.{All}
 
 -- entries one after the other; the first state is the first one's
 unfoldable pub entriesOf : {X : Type 0} → (X → ℕ → List ℕ) → List X → List ℕ → List ℕ

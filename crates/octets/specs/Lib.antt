@@ -3,3 +3,5 @@ pub mod Over
 pub mod Parts
 pub mod Round
 pub mod Zero
+pub mod le
+pub mod text

@@ -1,4 +1,6 @@
 // Slices of bytes: copied, cleared, tested for zero, compared; and rounding to 64.
+pub mod le;
+pub mod text;
 ghost use mathlib.Core.Path.{_≡_};
 ghost use Prim.Native.Nat.{_+_, _≤_, _<_, _^_};
 ghost use lib.ListN.{length, replicate};

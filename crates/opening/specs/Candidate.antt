@@ -7,15 +7,15 @@ use mathlib.Core.List.{List, [], _∷_}
 use native.Mathlib.Omega.{arith}
 use lib.ListN.{length, take, drop, getD}
 use lib.Seq.{take-take}
-use Rattle.le.specs.Le.{leAt, Bytes}
+use Rattle.octets.specs.le.Le.{leAt, Bytes}
 use Rattle.segment.specs.Header.{Link}
 use Rattle.segment.specs.Chained.{chain, offsetsOf}
-use Rattle.chain_index.specs.Offsets.{most, linkNo, Stored, stored-few}
-use Rattle.chain_index.specs.Numbered.{Numbered}
+use Rattle.segment.specs.index.Offsets.{most, linkNo, Stored, stored-few}
+use Rattle.segment.specs.index.Numbered.{Numbered}
 use Rattle.manifest.specs.Payload.{confirmed}
-use Rattle.manifest_write.specs.At.{Inside}
-use Rattle.manifest_check.specs.At.{confirmedAt}
-use Rattle.manifest_check.specs.Links.{before-inside, confirmed-at}
+use Rattle.confirm.specs.entries.At.{Inside}
+use Rattle.confirm.specs.states.At.{confirmedAt}
+use Rattle.confirm.specs.states.Links.{before-inside, confirmed-at}
 
 -- the offsets of some first links are the first offsets
 first-some : (ls : List Link) (i : ℕ) → offsetsOf (take i ls) ≡ take i (offsetsOf ls)

@@ -1,4 +1,5 @@
 -- What opening answers, and what it knows of the directory.
 pub mod Candidate
 pub mod Opened
-pub mod Directory
+pub mod Indexed
+pub mod directory

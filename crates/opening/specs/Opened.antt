@@ -11,8 +11,8 @@ use lib.Seq.{sets}
 use borrow.Author.Tests.{lt-leb}
 use Rattle.octets.specs.Zero.{sameBytes}
 use Rattle.answers.specs.Answer.{Answer, Accepted, Refusal, number}
-use Rattle.limits.specs.Limits.{maxFile, maxEntries}
-use Rattle.chain.specs.Last.{Found}
+use Rattle.answers.specs.limits.Limits.{maxFile, maxEntries}
+use Rattle.segment.specs.chain.Last.{Found}
 use Rattle.segment.specs.Header.{Link, whole, size}
 use Rattle.manifest.specs.Payload.{manifestKind, statesHeld, statesIn, manifestPayload, confirmed}
 use Rattle.manifest.specs.Opening.{opened, tried, openFound, openAnswer, atOpened, at-long, at-within}

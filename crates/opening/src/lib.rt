@@ -1,15 +1,16 @@
 // Opening a file: the search from its end for the last confirmed manifest of the chain.
+pub mod directory;
 ghost use mathlib.Core.Path.{_≡_};
 ghost use Prim.Native.Nat.{_+_, _≤_, _<_};
 ghost use lib.ListN.{length, take};
 ghost use Rattle.segment.specs.Chained.{chain};
-ghost use Rattle.chain_index.specs.Offsets.{most, linkNo, Stored};
-ghost use Rattle.chain_index.specs.Numbered.{Numbered};
+ghost use Rattle.segment.specs.index.Offsets.{most, linkNo, Stored};
+ghost use Rattle.segment.specs.index.Numbered.{Numbered};
 ghost use Rattle.manifest.specs.Payload.{confirmed};
 ghost use Rattle.manifest.specs.Opening.{opened};
-ghost use Rattle.limits.specs.Limits.{maxFile};
+ghost use Rattle.answers.specs.limits.Limits.{maxFile};
 ghost use Rattle.opening.specs.Opened.{foundCase, openedCase};
-ghost use Rattle.opening.specs.Directory.{Indexed};
+ghost use Rattle.opening.specs.Indexed.{Indexed};
 
 // What opening a file answers: its manifest's offset, end and id, the number of its entries and the boundaries tried; or no manifest
 // with the boundaries tried; or the number of a refusal.
@@ -33,10 +34,10 @@ fn candidate(file: &[u8], offsets: &[u64], n: usize, i: usize, p: usize) -> bool
     requires { ⌜ Numbered (now file) p i (linkNo (now file) i) ⌝ }
     ensures { λ r. ⌜ r ≡ confirmed (take i (chain (now (file .entry)))) (linkNo (now (file .entry)) i) ⌝ }
 {
-    let len = le::u64_at(file, p + 0x10) as usize;
-    let id = le::u64_at(file, p + 0x08);
+    let len = octets::le::u64_at(file, p + 0x10) as usize;
+    let id = octets::le::u64_at(file, p + 0x08);
     let kind = file[p + 0x05];
-    manifest_confirm::is_confirmed(file, offsets, i, p, len, kind, id)
+    confirm::is_confirmed(file, offsets, i, p, len, kind, id)
 }
 
 // Down from the last multiple of 64 that has 64 bytes after it, by 64. The offsets of the chain's first links rise, so a number k that
@@ -59,11 +60,11 @@ fn search(file: &[u8], offsets: &[u64], n: usize) -> Opened
             continue;
         }
         if candidate(file, offsets, n, i, p) {
-            let len = le::u64_at(file, p + 0x10) as usize;
+            let len = octets::le::u64_at(file, p + 0x10) as usize;
             return Opened::At {
                 offset: p,
                 end: p + 64 + octets::round_up(len),
-                id: le::u64_at(file, p + 0x08),
+                id: octets::le::u64_at(file, p + 0x08),
                 count: i,
                 tried,
             };
@@ -80,10 +81,10 @@ pub fn open_with(file: &[u8], offsets: &mut [u64]) -> Opened
     ensures { λ r. ⌜ r ≡ openedCase (now (file .entry)) ⌝ }
     ensures { λ _. ⌜ (length (now (file .entry)) ≤ maxFile → Indexed (now (file .entry)) (now (offsets .exit))) ⌝ }
 {
-    if file.len() > limits::MAX_FILE {
+    if file.len() > answers::limits::MAX_FILE {
         return Opened::Refused(1);
     }
-    let n = chain_index::collect(file, offsets);
+    let n = segment::index::collect(file, offsets);
     search(file, offsets, n)
 }
 

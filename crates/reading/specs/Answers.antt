@@ -6,17 +6,17 @@ use mathlib.Core.Option.{Option, none, some}
 use mathlib.Core.List.{List, [], _∷_}
 use lib.Dec.{eqb, ltb}
 use lib.ListN.{length}
-use Rattle.le.specs.Le.{leOf}
+use Rattle.octets.specs.le.Le.{leOf}
 use Rattle.answers.specs.Answer.{Answer, Accepted, Refusal}
 use Rattle.answers.specs.Write.{writeAnswer, writeBuffer}
-use Rattle.chain.specs.Last.{Found}
+use Rattle.segment.specs.chain.Last.{Found}
 use Rattle.segment.specs.Header.{Link, whole}
 use Rattle.manifest.specs.Opening.{atOpened}
 use Rattle.vecseg.specs.Payload.{checkOf}
 use Rattle.vecseg.specs.Find.{Place, findIn, vectorOf, valueAt}
-use Rattle.vec_get.specs.Vector.{readOf}
-use Rattle.vec_get.specs.declared.Vector.{Vector}
-use Rattle.vec_get.specs.declared.Vector.the-variants.{Refused}
+use Rattle.vec_read.specs.Vector.{readOf}
+use Rattle.vec_read.specs.declared.Vector.{Vector}
+use Rattle.vec_read.specs.declared.Vector.the-variants.{Refused}
 use Rattle.reading.specs.Live.{live, searchOrder, withId}
 
 -- ---- a payload by its segment's id

@@ -11,7 +11,7 @@ use lib.Dec.{eqb}
 use lib.ListN.{drop}
 use borrow.Author.Tests.{eq-eqb, ne-eqb, eqb-true}
 use Rattle.octets.specs.Zero.{same-equal}
-use Rattle.chain.specs.Chain.{All}
+use Rattle.segment.specs.chain.Chain.{All}
 use Rattle.segment.specs.Header.{Link, whole, contentHash}
 use Rattle.vecseg.specs.Payload.{checkOf, blockCount}
 use Rattle.vecseg.specs.Find.{Place, findIn, lineAt}

@@ -10,9 +10,9 @@ use lib.Dec.{eqb}
 use lib.ListN.{length, take, drop, getD, drop-of-length-le}
 use lib.Seq.{getD-drop, drop-cons, drop-drop, take-length, take-suc, length-take-le}
 use borrow.Author.Tests.{eq-eqb, ne-eqb}
-use Rattle.chain.specs.Last.{Found}
+use Rattle.segment.specs.chain.Last.{Found}
 use Rattle.segment.specs.Header.{Link}
-use Rattle.chain_index.specs.Offsets.{noLink}
+use Rattle.segment.specs.index.Offsets.{noLink}
 use Rattle.manifest.specs.Opening.{states}
 use Rattle.vecseg.specs.Payload.{vecKind}
 

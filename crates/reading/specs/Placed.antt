@@ -11,15 +11,15 @@ use native.Mathlib.Decide.{decLe}
 use lib.Dec.{eqb}
 use lib.ListN.{length, take, drop, getD, length-drop}
 use lib.Seq.{drop-drop}
-use Rattle.limits.specs.Limits.{maxFile}
-use Rattle.chain.specs.Chain.{All, all-append, all-map}
-use Rattle.chain.specs.Last.{Found, openOf, Stands, last-stands}
+use Rattle.answers.specs.limits.Limits.{maxFile}
+use Rattle.segment.specs.chain.Chain.{All, all-append, all-map}
+use Rattle.segment.specs.chain.Last.{Found, openOf, Stands, last-stands}
 use Rattle.segment.specs.Header.{Link, whole}
 use Rattle.segment.specs.Laws.{linkFront, Lies, lies}
 use Rattle.segment.specs.Chained.{chain}
 use Rattle.manifest.specs.Payload.{confirmed}
 use Rattle.manifest.specs.Opening.{opened, states, atOpened, at-long, at-within}
-use Rattle.manifest_write.specs.Links.{Lying, chain-lying}
+use Rattle.confirm.specs.entries.Links.{Lying, chain-lying}
 use Rattle.vecseg.specs.Payload.{vecKind}
 use Rattle.vecseg.specs.Find.{Place, findIn}
 use Rattle.reading.specs.Live.{liveOf, live, vectorsOf, searchOrder, withId}

@@ -2,10 +2,10 @@
 ghost use mathlib.Core.Path.{_≡_};
 ghost use Rattle.answers.specs.Answer.{number, outOf};
 ghost use Rattle.reading.specs.Answers.{partIn, partAnswer, vectorCase, vectorAfter, valueIn, valueAnswer};
-ghost use Rattle.vec_get.specs.Vector.{vectorAnswer};
-use file_vector::Bits;
-use locate_payload::Place;
-use vec_get::Vector;
+ghost use Rattle.vec_read.specs.Vector.{vectorAnswer};
+use lookup::vector::Bits;
+use lookup::place::Place;
+use vec_read::Vector;
 
 // Where the payload of the live segment with an id lies in the file: where it begins, and its length; or 1, 2, 3, 4.
 #[no_mangle]
@@ -13,7 +13,7 @@ pub extern "C" fn rvf_payload(file: &[u8], id: u64, out: &mut [u64; 2]) -> u32
     ensures { λ r. ⌜ r ≡ number (partAnswer (partIn (now (file .entry)) id)) ⌝ }
     ensures { λ _. ⌜ now (out .exit) ≡ outOf (now (out .entry)) (partAnswer (partIn (now (file .entry)) id)) ⌝ }
 {
-    let p = locate_payload::payload_place(file, id);
+    let p = lookup::place::payload_place(file, id);
     match p {
         Place::Refused(e) => e,
         Place::At { start, length } => {
@@ -31,7 +31,7 @@ pub extern "C" fn rvf_vector(file: &[u8], id: u64, buffer: &mut [u8], out: &mut 
     ensures { λ _. ⌜ now (buffer .exit) ≡ vectorAfter (now (file .entry)) id (now (buffer .entry)) ⌝ }
     ensures { λ _. ⌜ now (out .exit) ≡ outOf (now (out .entry)) (vectorAnswer (vectorCase (now (file .entry)) id (now (buffer .entry)))) ⌝ }
 {
-    let v = file_vector::vector(file, id, buffer);
+    let v = lookup::vector::vector(file, id, buffer);
     match v {
         Vector::Refused(e) => e,
         Vector::Read { dim, dtype, length } => {
@@ -49,7 +49,7 @@ pub extern "C" fn rvf_component(file: &[u8], id: u64, index: u64, out: &mut [u64
     ensures { λ r. ⌜ r ≡ number (valueAnswer (valueIn (now (file .entry)) id index)) ⌝ }
     ensures { λ _. ⌜ now (out .exit) ≡ outOf (now (out .entry)) (valueAnswer (valueIn (now (file .entry)) id index)) ⌝ }
 {
-    let b = file_vector::component_bits(file, id, index);
+    let b = lookup::vector::component_bits(file, id, index);
     match b {
         Bits::Refused(e) => e,
         Bits::Of { dtype, bits } => {

@@ -3,8 +3,8 @@ ghost use mathlib.Core.Path.{_≡_};
 ghost use Rattle.answers.specs.Answer.{number, outOf};
 ghost use Rattle.manifest.specs.Opening.{openAnswer};
 ghost use Rattle.opening.specs.Opened.{openOut};
-ghost use Rattle.directory.specs.Entry.{entryAnswer};
-use directory::DirectoryEntry;
+ghost use Rattle.opening.specs.directory.Entry.{entryAnswer};
+use opening::directory::DirectoryEntry;
 use opening::Opened;
 
 // The file's manifest: offset, end, id, the number of its entries and the boundaries tried; 1; or 2, which writes the boundaries tried alone.
@@ -44,7 +44,7 @@ pub extern "C" fn rvf_entry(file: &[u8], index: u64, out: &mut [u64; 8]) -> u32
     ensures { λ r. ⌜ r ≡ number (entryAnswer (now (file .entry)) index) ⌝ }
     ensures { λ _. ⌜ now (out .exit) ≡ outOf (now (out .entry)) (entryAnswer (now (file .entry)) index) ⌝ }
 {
-    let e = directory::entry(file, index);
+    let e = opening::directory::entry(file, index);
     match e {
         DirectoryEntry::Refused(n) => n,
         DirectoryEntry::NoEntry => 255,

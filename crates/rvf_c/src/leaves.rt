@@ -41,7 +41,7 @@ pub extern "C" fn rvf_varint_write(buffer: &mut [u8], value: u64, out: &mut [u64
     ensures { λ _. ⌜ now (buffer .exit) ≡ writeBuffer 0 (varintOf value) (now (buffer .entry)) ⌝ }
     ensures { λ _. ⌜ now (out .exit) ≡ outOf (now (out .entry)) (wroteAnswer (writeAnswer 0 (varintOf value) (now (buffer .entry)))) ⌝ }
 {
-    let w = varint_write::write(buffer, value);
+    let w = varint::write::write(buffer, value);
     match w {
         Wrote::Refused(e) => e,
         Wrote::Length(length) => {

@@ -2,7 +2,7 @@
 ghost use mathlib.Core.Path.{_≡_};
 ghost use Rattle.answers.specs.Answer.{number, outOf};
 ghost use Rattle.answers.specs.Write.{wroteAnswer, writeAnswer, writeBuffer};
-ghost use Rattle.listing.specs.Listing.{listText};
+ghost use Rattle.listing.specs.line.Listing.{listText};
 use answers::Wrote;
 
 // What the lister prints about a file of at most 65,536 bytes, or that it refuses, at the front of a buffer: its length, or 9.
@@ -12,7 +12,7 @@ pub extern "C" fn rvf_list(file: &[u8], buffer: &mut [u8], out: &mut [u64; 1]) -
     ensures { λ _. ⌜ now (buffer .exit) ≡ writeBuffer 0 (listText (now (file .entry))) (now (buffer .entry)) ⌝ }
     ensures { λ _. ⌜ now (out .exit) ≡ outOf (now (out .entry)) (wroteAnswer (writeAnswer 0 (listText (now (file .entry))) (now (buffer .entry)))) ⌝ }
 {
-    let w = list_file::list(file, buffer);
+    let w = listing::list(file, buffer);
     match w {
         Wrote::Refused(e) => e,
         Wrote::Length(length) => {

@@ -4,16 +4,16 @@ ghost use Rattle.answers.specs.Answer.{number, outOf};
 ghost use Rattle.answers.specs.Write.{wroteAnswer, writeAnswer, writeBuffer};
 ghost use Rattle.vecseg.specs.Payload.{checkOf};
 ghost use Rattle.vecseg.specs.Writer.{vecBad, vecBytes};
-ghost use Rattle.vec_get.specs.Vector.{vectorAnswer, vectorIn, vectorBuffer};
+ghost use Rattle.vec_read.specs.Vector.{vectorAnswer, vectorIn, vectorBuffer};
 use answers::Wrote;
-use vec_get::Vector;
+use vec_read::Vector;
 
 // The check of a payload: 5, 6, 7, or 0 where it is sound.
 #[no_mangle]
 pub extern "C" fn rvf_vec_check(payload: &[u8]) -> u32
     ensures { λ r. ⌜ r ≡ checkOf (now (payload .entry)) ⌝ }
 {
-    vec_check::check(payload)
+    vec_read::check::check(payload)
 }
 
 // A payload of one block at the front of a buffer: its length, or 14, then 9.
@@ -55,7 +55,7 @@ pub extern "C" fn rvf_vec_read(
     ensures { λ _. ⌜ now (buffer .exit) ≡ vectorBuffer (now (payload .entry)) id (now (buffer .entry)) ⌝ }
     ensures { λ _. ⌜ now (out .exit) ≡ outOf (now (out .entry)) (vectorAnswer (vectorIn (now (payload .entry)) id (now (buffer .entry)))) ⌝ }
 {
-    let v = vec_get::read(payload, id, buffer);
+    let v = vec_read::read(payload, id, buffer);
     match v {
         Vector::Refused(e) => e,
         Vector::Read { dim, dtype, length } => {

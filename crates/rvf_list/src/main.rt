@@ -8,7 +8,7 @@ fn main() {
     let mut file = [0u8; 65537];
     let mut text = [0u8; 102400];
     let n = io::read_full(STDIN_FILENO, &mut file);
-    let wrote = list_file::list(&file[..n], &mut text);
+    let wrote = listing::list(&file[..n], &mut text);
     match wrote {
         // The buffer has room for the longest list.
         Wrote::Refused(_) => {}

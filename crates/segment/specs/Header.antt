@@ -10,10 +10,10 @@ use lib.Dec.{eqb, leb}
 use lib.ListN.{length, take, drop, getD, replicate}
 use Rattle.octets.specs.Round.{round64}
 use Rattle.octets.specs.Zero.{allZero, sameBytes}
-use Rattle.le.specs.Le.{leAt, leBytes}
+use Rattle.octets.specs.le.Le.{leAt, leBytes}
 use Rattle.crc32c.specs.Crc.{crcOf}
-use Rattle.chain.specs.Chain.{Reader}
-use Rattle.chain.specs.Framed.{framed}
+use Rattle.segment.specs.chain.Chain.{Reader}
+use Rattle.segment.specs.chain.Framed.{framed}
 use Rattle.segment.specs.Tests.{all}
 
 -- ---- a header's fields

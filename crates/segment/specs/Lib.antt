@@ -9,3 +9,6 @@ pub mod Step
 pub mod Tests
 pub mod Ways
 pub mod Written
+pub mod chain
+pub mod index
+pub mod write

@@ -11,10 +11,10 @@ use lib.Seq.{take-at, drop-at, drop-drop, take-append-seam, drop-append-seam, dr
 use borrow.Author.Tests.{le-leb}
 use Rattle.octets.specs.Round.{round64}
 use Rattle.octets.specs.Zero.{allZero, sameBytes, zeros-all, equal-same}
-use Rattle.le.specs.Le.{leBytes}
-use Rattle.le.specs.Laws.{leOf-leBytes}
-use Rattle.chain.specs.Chain.{extend, Exact, done, more}
-use Rattle.chain.specs.Framed.{framed-whole}
+use Rattle.octets.specs.le.Le.{leBytes}
+use Rattle.octets.specs.le.Laws.{leOf-leBytes}
+use Rattle.segment.specs.chain.Chain.{extend, Exact, done, more}
+use Rattle.segment.specs.chain.Framed.{framed-whole}
 use Rattle.segment.specs.Tests.{all}
 use Rattle.segment.specs.Header.{State, reader, read, linkAt, linkIn, sizeAt, size, sound, headSound, typeHeld, flagsHeld, contentHash, whole, lengthIn, idIn, kindIn, flagsIn, timestampIn, hashIn}
 use Rattle.segment.specs.Written.{headerOf, header, padding, segment, linkOf, header-length, segment-length}

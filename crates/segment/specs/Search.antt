@@ -8,11 +8,11 @@ use mathlib.Core.List.{List, [], _∷_, _++_, append-assoc}
 use Prim.Native.Nat.{ℕ, _+_, _*_, _/_, _%_, _≤_, _<_}
 use native.Mathlib.Omega.{arith}
 use lib.ListN.{length, take, drop, take-append-drop}
-use Rattle.chain.specs.Chain.{sizes}
-use Rattle.chain.specs.Last.{lastConfirmed, scan, openOf}
-use Rattle.chain.specs.Places.{same-place, later-place, within}
-use Rattle.chain.specs.Walk.{walk-fits, walk-each}
-use Rattle.chain.specs.Search.{below, below-all, below-zero, boundary-down, boundary-found}
+use Rattle.segment.specs.chain.Chain.{sizes}
+use Rattle.segment.specs.chain.Last.{lastConfirmed, scan, openOf}
+use Rattle.segment.specs.chain.Places.{same-place, later-place, within}
+use Rattle.segment.specs.chain.Walk.{walk-fits, walk-each}
+use Rattle.segment.specs.chain.Search.{below, below-all, below-zero, boundary-down, boundary-found}
 use Rattle.segment.specs.declared.Step.the-variants.{Sound, Stop}
 use Rattle.segment.specs.Header.{Link, start, reader, size}
 use Rattle.segment.specs.Laws.{segment-format, size-least, size-aligned, chain-aligned}

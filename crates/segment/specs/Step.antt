@@ -13,8 +13,8 @@ use borrow.Author.Tests.{lt-leb, le-leb}
 use Rattle.octets.specs.Over.{drop-take}
 use Rattle.octets.specs.Zero.{sameBytes, allZero}
 use Rattle.octets.specs.Round.{round64, round64-ge}
-use Rattle.le.specs.Le.{leAt}
-use Rattle.chain.specs.Framed.{framed}
+use Rattle.octets.specs.le.Le.{leAt}
+use Rattle.segment.specs.chain.Framed.{framed}
 use Rattle.segment.specs.declared.Step.{Step}
 use Rattle.segment.specs.declared.Step.the-variants.{Sound, Stop}
 use Rattle.segment.specs.Header.{Link, State, linkAt, size, hashIn, contentHash, read, sizeAt, sound, headSound, lengthIn, idIn, kindIn, flagsIn, whole}

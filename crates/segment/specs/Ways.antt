@@ -10,7 +10,7 @@ use lib.ListN.{take, drop, getD, replicate}
 use borrow.Author.Tests.{lt-leb, le-leb, ltb-true, ltb-false}
 use Rattle.octets.specs.Over.{over}
 use Rattle.octets.specs.Zero.{allZero, sameBytes}
-use Rattle.le.specs.Le.{leBytes}
+use Rattle.octets.specs.le.Le.{leBytes}
 use Rattle.crc32c.specs.Crc.{crcOf}
 use Rattle.segment.specs.Tests.{all, all-fails}
 use Rattle.segment.specs.Header.{magic, typeHeld, flagsHeld, headSound, headTests, kindIn, flagsIn, idIn, contentHash}

@@ -6,7 +6,7 @@ use Prim.Native.Nat.{ℕ, _+_, _-_, _*_, _/_, _%_, _≤_}
 use native.Mathlib.Omega.{arith}
 use lib.ListN.{length, replicate, length-append, length-replicate}
 use Rattle.octets.specs.Round.{round64, round64-ge}
-use Rattle.le.specs.Le.{leBytes}
+use Rattle.octets.specs.le.Le.{leBytes}
 use Rattle.segment.specs.Header.{magic, contentHash, Link, size}
 
 -- a header with a payload's length and its hash

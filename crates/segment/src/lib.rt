@@ -1,4 +1,9 @@
 // Segments of the file: the types and flags that a header may have, the content hash, and whether a link is whole.
+pub mod chain;
+pub mod header;
+pub mod index;
+pub mod link;
+pub mod write;
 ghost use mathlib.Core.Path.{_≡_};
 ghost use Prim.Native.Nat.{_+_, _≤_};
 ghost use lib.ListN.{length};
@@ -45,7 +50,7 @@ pub fn content_hash(payload: &[u8]) -> [u8; 16]
     ensures { λ r. ⌜ r ≡ contentHash (now (payload .entry)) ⌝ }
 {
     let mut hash = [0u8; 16];
-    le::put(&mut hash, 0, 4, crc32c::checksum(payload) as u64);
+    octets::le::put(&mut hash, 0, 4, crc32c::checksum(payload) as u64);
     hash
 }
 

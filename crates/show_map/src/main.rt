@@ -26,7 +26,7 @@ fn show(bytes: &[u8]) {
         refused(5);
         return;
     }
-    let count = le::u32_at(bytes, 3) as u64;
+    let count = octets::le::u32_at(bytes, 3) as u64;
     let mut ids = [0u64; 4096];
     let w = idmap_read::read(bytes, count, &mut ids);
     match w {

@@ -1,4 +1,6 @@
--- A vector's bytes, and a component by its kind.
-pub mod Component
-pub mod Bytes
+-- A vector by its id out of a payload.
 pub mod Vector
+pub mod block
+pub mod check
+pub mod find
+pub mod values

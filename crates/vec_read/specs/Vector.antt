@@ -1,143 +1,124 @@
--- The values of a vector, one behind the other: where the loop stands that gathers them from the columns, and the room they take.
+-- A vector by its id out of a payload: the payload is checked whole first, 5, 6 or 7; then 8 where no block holds the id;
+-- then 9 where the buffer is short; else the vector's bytes at the buffer's front.
 -- Assumes nothing.
-use Prim.Native.Nat.{ℕ, zero, suc, _+_, _-_, _*_, _≤_, _<_}
+use Prim.Native.Nat.{ℕ, zero, suc, _+_, _*_, _≤_, _<_}
 use mathlib.Core.Path.{_≡_, refl, sym, ap, _∙_}
-use mathlib.Core.List.{List, [], _∷_, _++_, append-assoc, append-nil}
-use native.Mathlib.Nat.{mul-le-mul, mul-comm, suc-mul, zero-add}
-use native.Mathlib.Numerals.{add-one}
+use mathlib.Core.Bool.{cond}
+use mathlib.Core.Option.{Option, none, some}
+use mathlib.Core.List.{List, [], _∷_}
 use native.Mathlib.Omega.{arith}
-use lib.ListN.{length, getD, take, drop, length-append, length-drop}
-use lib.Seq.{length-take-le, getD-take, getD-drop}
-use borrow.Rule.Slice.PartMut.{putMid}
-use Rattle.octets.specs.Over.{over, over-none, over-then, length-over}
-use Rattle.octets.specs.Parts.{back}
-use Rattle.vecseg.specs.Payload.{Line, width, columnsLength}
+use lib.Dec.{eqb, leb}
+use lib.ListN.{length}
+use borrow.Author.Tests.{eq-eqb, ne-eqb}
+use Rattle.answers.specs.Answer.{Answer, Accepted, Refusal}
+use Rattle.answers.specs.Write.{writeAnswer, writeBuffer}
+use Rattle.answers.specs.declared.Wrote.{Wrote}
+use Rattle.answers.specs.declared.Wrote.the-variants.{Length, Refused as WroteRefused}
+use Rattle.vecseg.specs.Payload.{Line, checkOf, width, columnsLength}
 use Rattle.vecseg.specs.LineLaws.{width-most}
-use Rattle.vecseg.specs.Find.{Place, valueAt, valuesFrom, vectorOf}
+use Rattle.vecseg.specs.Find.{Place, findIn, vectorOf}
+use Rattle.vecseg.specs.FindLaws.{PlaceGood, found-good}
+use Rattle.vec_read.specs.find.Found.{foundOf}
+use Rattle.vec_read.specs.declared.find.Found.{Found}
+use Rattle.vec_read.specs.declared.find.Found.the-variants.{At, Missing as NotFound}
+use Rattle.vec_read.specs.values.Vector.{placeWith, vector-with, Bounds}
+use Rattle.vec_read.specs.declared.Vector.{Vector}
+use Rattle.vec_read.specs.declared.Vector.the-variants.{Read, Refused}
 
--- the place that a call hands over by its numbers; the tier plays no part
-unfoldable pub placeWith : ℕ → ℕ → ℕ → ℕ → ℕ → Place
-placeWith offset count dim dtype index = record { line = record { offset = offset; count = count; dim = dim; dtype = dtype; tier = 0 }; index = index }
+-- document 01's number and values for each case
+abbrev pub vectorAnswer : Vector → Answer
+vectorAnswer (Read dim dtype n) = Accepted (dim ∷ dtype ∷ n ∷ [])
+vectorAnswer (Refused e) = Refusal e []
 
-values-with : (s : List ℕ) (p : Place) (n d : ℕ) → valuesFrom s p n d ≡ valuesFrom s (placeWith (p .line .offset) (p .line .count) (p .line .dim) (p .line .dtype) (p .index)) n d
-unfolding valuesFrom valueAt placeWith
-values-with s p zero d = refl
-values-with s p (suc n) d = rw (values-with s p n (suc d))
+-- a found vector: dim, dtype and the length written, or 9
+unfoldable pub readOf : Place → Wrote → Vector
+readOf p (Length n) = Read (p .line .dim) (p .line .dtype) n
+readOf p (WroteRefused e) = Refused e
 
-pub vector-with : (s : List ℕ) (p : Place) → vectorOf s p ≡ vectorOf s (placeWith (p .line .offset) (p .line .count) (p .line .dim) (p .line .dtype) (p .index))
-unfolding vectorOf placeWith
-vector-with s p = values-with s p (p .line .dim) 0
+unfoldable pub placedOf : List ℕ → Option Place → List ℕ → Vector
+placedOf s none buf = Refused 8
+placedOf s (some p) buf = readOf p (writeAnswer 0 (vectorOf s p) buf)
 
--- ---- the room that the values take, of numbers within bounds
+unfoldable pub vectorIn : List ℕ → ℕ → List ℕ → Vector
+vectorIn s id buf = cond (eqb (checkOf s) 0) (placedOf s (findIn s id) buf) (Refused (checkOf s))
 
-pub record Bounds (n offset count dim w index : ℕ) : Type 0 where
-  pub most : count ≤ 4096
-  pub few : dim ≤ 1024
-  pub small : w ≤ 4
-  pub room : offset + count * dim * w ≤ n
-  pub index-in : index < count
+-- the buffer after it: a refusal leaves it as it was
+unfoldable pub placedBuffer : List ℕ → Option Place → List ℕ → List ℕ
+placedBuffer s none buf = buf
+placedBuffer s (some p) buf = writeBuffer 0 (vectorOf s p) buf
 
-pub record ValueRoom (n offset count dim w index d : ℕ) : Type 0 where
-  pub row : d * count ≤ 4194304
-  pub from : offset + (d * count + index) * w + w ≤ n
-  pub to : d * w + w ≤ dim * w
-  pub all : dim * w ≤ 4096
+unfoldable pub vectorBuffer : List ℕ → ℕ → List ℕ → List ℕ
+vectorBuffer s id buf = cond (eqb (checkOf s) 0) (placedBuffer s (findIn s id) buf) buf
 
-pub value-room : (n offset count dim w index d : ℕ) → Bounds n offset count dim w index → d < dim → ValueRoom n offset count dim w index d
-value-room n offset count dim w index d b h =
-    let most = b .most in
-    let few = b .few in
-    let small = b .small in
-    let index-in = b .index-in in
-    let rows : suc d * count ≤ dim * count = mul-le-mul h (omega arith) in
-    let e : suc d * count ≡ d * count + count = suc-mul d count in
-    let within : suc (d * count + index) ≤ count * dim = omega (arith, mul-comm count dim) in
-    let wide : suc (d * count + index) * w ≤ count * dim * w = mul-le-mul within (omega arith) in
-    let f : suc (d * count + index) * w ≡ (d * count + index) * w + w = suc-mul (d * count + index) w in
-    let row : d * count ≤ 1024 * 4096 = mul-le-mul {n₂ = 1024} {m₂ = 4096} (omega arith) most in
-    let up : suc d * w ≤ dim * w = mul-le-mul h (omega arith) in
-    let all : dim * w ≤ 1024 * 4 = mul-le-mul few small in
-    record { row = row; from = omega (arith, b .room); to = omega (arith, suc-mul d w); all = all }
+-- ---- the ways out
 
-pub all-room : (n offset count dim w index : ℕ) → Bounds n offset count dim w index → dim * w ≤ 4096
-all-room n offset count dim w index b = mul-le-mul (b .few) (b .small)
+module _ (s : List ℕ) (id : ℕ) (buf : List ℕ) where
+  pub get-bad : (e : ℕ) → e ≡ checkOf s → (e ≡ 0 → ⊥) → (Refused e ≡ vectorIn s id buf) × (buf ≡ vectorBuffer s id buf)
+  unfolding vectorIn vectorBuffer
+  get-bad e p nz = rw (← p, ne-eqb e 0 nz) (refl, refl)
 
--- ---- the values
+  module _ (ok : checkOf s ≡ 0) where
+    none-found : (o : Option Place) → foundOf o ≡ NotFound → o ≡ none
+    unfolding foundOf
+    none-found none e = refl
+    none-found (some p) e = absurd (let z : _≡_ {A = ℕ} 0 1 = cc in omega arith)
 
-values-more : (s : List ℕ) (p : Place) (n d : ℕ) → valuesFrom s p (suc n) d ≡ valuesFrom s p n d ++ valueAt s p (d + n)
-unfolding valuesFrom
-values-more s p zero d = let e : d + 0 ≡ d = omega arith in rw e (append-nil (valueAt s p d))
-values-more s p (suc n) d =
-    let e : suc d + n ≡ d + suc n = omega arith in
-    ap (λ (l : List ℕ). valueAt s p d ++ l) (values-more s p n (suc d))
-    ∙ sym (append-assoc (valueAt s p d) (valuesFrom s p n (suc d)) (valueAt s p (suc d + n)))
-    ∙ rw e
+    pub get-missing : foundOf (findIn s id) ≡ NotFound → (Refused 8 ≡ vectorIn s id buf) × (buf ≡ vectorBuffer s id buf)
+    unfolding vectorIn vectorBuffer placedOf placedBuffer
+    get-missing e = rw (ok, none-found (findIn s id) e) (refl, refl)
 
--- where the loop stands: d values are written at the front of the buffer
-pub record VectorAt (s : List ℕ) (offset count dim dtype index : ℕ) (buf₀ buf : List ℕ) (d : ℕ) : Type 0 where
-  pub few : d ≤ dim
-  pub long : length buf ≡ length buf₀
-  pub laid : buf ≡ over buf₀ 0 (valuesFrom s (placeWith offset count dim dtype index) d 0)
+    module _ (offset count dim dtype index : ℕ) (e : foundOf (findIn s id) ≡ At offset count dim dtype index) where
+      record Found′ : Type 0 where
+        place : Place
+        found : findIn s id ≡ some place
+        offset-is : place .line .offset ≡ offset
+        count-is : place .line .count ≡ count
+        dim-is : place .line .dim ≡ dim
+        dtype-is : place .line .dtype ≡ dtype
+        index-is : place .index ≡ index
 
-module _ (s : List ℕ) (offset count dim dtype index : ℕ) (b : Bounds (length s) offset count dim (width dtype) index) where
-  value-is : (d : ℕ) → valueAt s (placeWith offset count dim dtype index) d ≡ take (width dtype) (drop (offset + (d * count + index) * width dtype) s)
-  unfolding valueAt placeWith
-  value-is d = refl
+      found : Found′
+      unfolding foundOf
+      found = pick (findIn s id) refl e
+        where
+          pick : (o : Option Place) → findIn s id ≡ o → foundOf o ≡ At offset count dim dtype index → Found′
+          pick none p q = absurd (let z : _≡_ {A = ℕ} 0 1 = cc in omega arith)
+          pick (some w) p q = record { place = w; found = p; offset-is = cc; count-is = cc; dim-is = cc; dtype-is = cc; index-is = cc }
 
-  value-length : (d : ℕ) → d < dim → length (valueAt s (placeWith offset count dim dtype index) d) ≡ width dtype
-  value-length d h =
-      let r = value-room (length s) offset count dim (width dtype) index d b h .from in
-      rw (value-is d) (length-take-le (width dtype) (drop (offset + (d * count + index) * width dtype) s) (omega (arith, length-drop (offset + (d * count + index) * width dtype) s)))
+      pub get-bounds : Bounds (length s) offset count dim (width dtype) index
+      unfolding columnsLength
+      get-bounds =
+          let w = found in
+          let g = found-good s ok id (w .place) (w .found) in
+          let c : w .place .line .count * w .place .line .dim * width (w .place .line .dtype) ≡ count * dim * width dtype = rw (w .count-is, w .dim-is, w .dtype-is) in
+          record {
+            most = omega (arith, g .line .most, w .count-is);
+            few = omega (arith, g .line .few, w .dim-is);
+            small = width-most dtype;
+            room = omega (arith, g .room, w .offset-is, c);
+            index-in = omega (arith, g .index-in, w .index-is, w .count-is);
+          }
 
-  pub values-length : (d : ℕ) → d ≤ dim → length (valuesFrom s (placeWith offset count dim dtype index) d 0) ≡ d * width dtype
-  unfolding valuesFrom
-  values-length zero h = omega arith
-  values-length (suc d) h =
-      let e : 0 + d ≡ d = omega arith in
-      rw (values-more s (placeWith offset count dim dtype index) d 0, e)
-      (length-append (valuesFrom s (placeWith offset count dim dtype index) d 0) (valueAt s (placeWith offset count dim dtype index) d)
-      ∙ omega (arith, values-length d (omega arith), value-length d h, suc-mul d (width dtype)))
+      same-vector : vectorOf s (placeWith offset count dim dtype index) ≡ vectorOf s (found .place)
+      same-vector =
+          let w = found in
+          sym (vector-with s (w .place) ∙ rw (w .offset-is, w .count-is, w .dim-is, w .dtype-is, w .index-is))
 
-  pub vector-length : length (vectorOf s (placeWith offset count dim dtype index)) ≡ dim * width dtype
-  unfolding vectorOf placeWith
-  vector-length = values-length dim (omega arith)
+      to-place : (vectorIn s id buf ≡ readOf (found .place) (writeAnswer 0 (vectorOf s (found .place)) buf)) × (vectorBuffer s id buf ≡ writeBuffer 0 (vectorOf s (found .place)) buf)
+      unfolding vectorIn vectorBuffer placedOf placedBuffer
+      to-place = rw (ok, found .found) (refl, refl)
 
-  pub vector-first : (buf : List ℕ) → VectorAt s offset count dim dtype index buf buf 0
-  unfolding valuesFrom
-  vector-first buf = record { few = omega arith; long = refl; laid = sym (over-none buf 0) }
+      pub get-short : (n : ℕ) (exit : List ℕ) → writeAnswer 0 (vectorOf s (placeWith offset count dim dtype index)) buf ≡ WroteRefused n
+          → exit ≡ writeBuffer 0 (vectorOf s (placeWith offset count dim dtype index)) buf → (Refused n ≡ vectorIn s id buf) × (exit ≡ vectorBuffer s id buf)
+      unfolding readOf
+      get-short n exit p q =
+          let a : writeAnswer 0 (vectorOf s (found .place)) buf ≡ WroteRefused n = rw same-vector at p in
+          (sym (to-place .0 ∙ ap (readOf (found .place)) a), q ∙ ap (λ (v : List ℕ). writeBuffer 0 v buf) same-vector ∙ sym (to-place .1))
 
-  -- the part of the buffer from the next value's place on came back with that value at its front
-  pub vector-next : (buf₀ buf ys : List ℕ) (d : ℕ) → VectorAt s offset count dim dtype index buf₀ buf d → d < dim → dim * width dtype ≤ length buf₀
-      → ys ≡ over (take (length buf - d * width dtype) (drop (d * width dtype) buf)) 0
-      (take (offset + (d * count + index) * width dtype + width dtype - (offset + (d * count + index) * width dtype)) (drop (offset + (d * count + index) * width dtype) s))
-      → VectorAt s offset count dim dtype index buf₀ (putMid (d * width dtype) (length buf - d * width dtype) buf ys) (d + 1)
-  vector-next buf₀ buf ys d st h room p =
-      let long = st .long in
-      let w : ℕ = width dtype in
-      let at : ℕ = offset + (d * count + index) * width dtype in
-      let v : List ℕ = valueAt s (placeWith offset count dim dtype index) d in
-      let r = value-room (length s) offset count dim (width dtype) index d b h in
-      let to = r .to in
-      let e : at + w - at ≡ w = omega arith in
-      let n : length v ≡ w = value-length d h in
-      let q : ys ≡ over (take (length buf - d * w) (drop (d * w) buf)) 0 v = rw (e, ← (value-is d)) at p in
-      let one : putMid (d * w) (length buf - d * w) buf ys ≡ over buf (d * w) v = back buf (d * w) ys v q (omega arith) in
-      let z : 0 + d * w ≡ d * w = omega arith in
-      let two : over buf (0 + d * w) v ≡ over buf₀ 0 (valuesFrom s (placeWith offset count dim dtype index) d 0 ++ v) =
-      over-then buf₀ buf 0 (valuesFrom s (placeWith offset count dim dtype index) d 0) v (d * w) (st .laid) (values-length d (omega arith)) (omega arith) in
-      let two2 : over buf (d * w) v ≡ over buf₀ 0 (valuesFrom s (placeWith offset count dim dtype index) d 0 ++ v) = rw z at two in
-      let m = values-more s (placeWith offset count dim dtype index) d 0 in
-      let m2 : valuesFrom s (placeWith offset count dim dtype index) (suc d) 0 ≡ valuesFrom s (placeWith offset count dim dtype index) d 0 ++ v = m ∙ rw (zero-add d) in
-      let three : putMid (d * w) (length buf - d * w) buf ys ≡ over buf₀ 0 (valuesFrom s (placeWith offset count dim dtype index) (suc d) 0) = one ∙ two2 ∙ rw m2 in
-      record {
-        few = omega arith;
-        long = ap length three ∙ length-over buf₀ 0 (valuesFrom s (placeWith offset count dim dtype index) (suc d) 0) (omega (arith, values-length (suc d) h, suc-mul d (width dtype)));
-        laid = rw add-one three;
-      }
-
-  pub vector-last : (buf₀ buf : List ℕ) (d : ℕ) → VectorAt s offset count dim dtype index buf₀ buf d → dim ≤ d → buf ≡ over buf₀ 0 (vectorOf s (placeWith offset count dim dtype index))
-  unfolding vectorOf placeWith
-  vector-last buf₀ buf d st h =
-      let few = st .few in
-      let e : d ≡ dim = omega arith in
-      rw e at (st .laid)
+      pub get-read : (n : ℕ) (exit : List ℕ) → writeAnswer 0 (vectorOf s (placeWith offset count dim dtype index)) buf ≡ Length n
+          → exit ≡ writeBuffer 0 (vectorOf s (placeWith offset count dim dtype index)) buf → (Read dim dtype n ≡ vectorIn s id buf) × (exit ≡ vectorBuffer s id buf)
+      unfolding readOf
+      get-read n exit p q =
+          let a : writeAnswer 0 (vectorOf s (found .place)) buf ≡ Length n = rw same-vector at p in
+          let r : Read (found .place .line .dim) (found .place .line .dtype) n ≡ Read dim dtype n = rw (found .dim-is, found .dtype-is) in
+          (sym r ∙ sym (to-place .0 ∙ ap (readOf (found .place)) a), q ∙ ap (λ (v : List ℕ). writeBuffer 0 v buf) same-vector ∙ sym (to-place .1))

@@ -1,82 +1,48 @@
-// A vector's bytes in dimension order, gathered from the columns of its block, and a component by its kind.
+// A vector by its id out of a VEC_SEG payload. The payload is checked whole first: no vector leaves one that is not sound.
+pub mod block;
+pub mod check;
+pub mod find;
+pub mod lines;
+pub mod values;
 ghost use mathlib.Core.Path.{_≡_};
-ghost use Prim.Native.Nat.{_+_, _*_, _≤_, _<_};
-ghost use lib.ListN.{length, take, drop};
-ghost use lib.Ieee.{ofBits, binary32};
-ghost use Rattle.answers.specs.Write.{writeAnswer, writeBuffer};
-ghost use Rattle.vecseg.specs.Payload.{width};
-ghost use Rattle.vecseg.specs.Find.{vectorOf};
-ghost use Rattle.vec_read.specs.Component.{signedOf, componentOf};
-ghost use Rattle.vec_read.specs.Vector.{placeWith, Bounds};
+ghost use Rattle.vec_read.specs.Vector.{vectorIn, vectorBuffer};
 use answers::Wrote;
+use crate::find::Found;
 
-// A component: a float, a signed or an unsigned small number.
-pub enum Component {
-    Float(f32),
-    Signed(i8),
-    Unsigned(u8),
+// What it answers: dim, dtype and the length written, or the number of a refusal.
+pub enum Vector {
+    Read {
+        dim: usize,
+        dtype: u8,
+        length: usize,
+    },
+    Refused(u32),
 }
 
-// The float of a bit pattern. A NaN's pattern gives a NaN, which the language has without its payload.
-fn float_of(bits: u32) -> f32
-    ensures { λ r. ⌜ r ≡ ofBits binary32 bits ⌝ }
+// 5, 6, 7 for a payload that is not sound; 8 where no block holds the id; 9 where the buffer is short.
+pub fn read(payload: &[u8], id: u64, buf: &mut [u8]) -> Vector
+    ensures { λ r. ⌜ r ≡ vectorIn (now (payload .entry)) id (now (buf .entry)) ⌝ }
+    ensures { λ _. ⌜ now (buf .exit) ≡ vectorBuffer (now (payload .entry)) id (now (buf .entry)) ⌝ }
 {
-    if bits % 2147483648 > 2139095040 {
-        return 0.0 / 0.0;
+    let bad = crate::check::check(payload);
+    if bad != 0 {
+        return Vector::Refused(bad);
     }
-    f32::from_bits(bits)
-}
-
-// A byte in two's complement.
-fn signed_of(b: u8) -> i8
-    ensures { λ r. ⌜ r ≡ signedOf b ⌝ }
-{
-    if b < 128 {
-        return b as i8;
+    let found = crate::find::find(payload, id);
+    match found {
+        Found::Missing => Vector::Refused(8),
+        Found::At {
+            offset,
+            count,
+            dim,
+            dtype,
+            index,
+        } => {
+            let w = crate::values::read_vector(payload, offset, count, dim, dtype, index, buf);
+            match w {
+                Wrote::Refused(e) => Vector::Refused(e),
+                Wrote::Length(length) => Vector::Read { dim, dtype, length },
+            }
+        }
     }
-    (b as i16 - 256) as i8
-}
-
-// The component whose bytes start at a place.
-pub fn component_at(s: &[u8], at: usize, dtype: u8) -> Component
-    requires { ⌜ (0 < width dtype) × (at + width dtype ≤ length (now s)) ⌝ }
-    ensures { λ r. ⌜ r ≡ componentOf dtype (take (width dtype) (drop at (now (s .entry)))) ⌝ }
-{
-    if dtype == 0 {
-        return Component::Float(float_of(le::u32_at(s, at)));
-    }
-    if dtype == 3 {
-        return Component::Signed(signed_of(s[at]));
-    }
-    Component::Unsigned(s[at])
-}
-
-// A vector's bytes at the front of a buffer, and how many; or 9, with the buffer as it was.
-pub fn read_vector(
-    s: &[u8],
-    offset: usize,
-    count: usize,
-    dim: usize,
-    dtype: u8,
-    index: usize,
-    buf: &mut [u8],
-) -> Wrote
-    requires { ⌜ Bounds (length (now s)) offset count dim (width dtype) index ⌝ }
-    ensures { λ r. ⌜ r ≡ writeAnswer 0 (vectorOf (now (s .entry)) (placeWith offset count dim dtype index)) (now (buf .entry)) ⌝ }
-    ensures { λ _. ⌜ now (buf .exit) ≡ writeBuffer 0 (vectorOf (now (s .entry)) (placeWith offset count dim dtype index)) (now (buf .entry)) ⌝ }
-{
-    let w = vecseg::width_of(dtype as u64);
-    let n = dim * w;
-    if buf.len() < n {
-        return Wrote::Refused(9);
-    }
-    let mut d: usize = 0;
-    while d < dim {
-        let from = offset + (d * count + index) * w;
-        let end = from + w;
-        let to = d * w;
-        octets::copy(&mut buf[to..], &s[from..end]);
-        d += 1;
-    }
-    Wrote::Length(n)
 }

@@ -10,7 +10,7 @@ use lib.Dec.{leb}
 use lib.ListN.{length, getD, drop}
 use lib.Seq.{drop-drop}
 use borrow.Author.Tests.{eq-eqb, ne-eqb, leb-true}
-use Rattle.le.specs.Le.{leBytes}
+use Rattle.octets.specs.le.Le.{leBytes}
 use Rattle.crc32c.specs.Crc.{crcOf}
 use Rattle.idmap.specs.Encode.{mapBytes, risesFrom}
 use Rattle.octets.specs.Zero.{and-split}

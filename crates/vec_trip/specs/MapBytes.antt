@@ -8,8 +8,8 @@ use native.Mathlib.Omega.{arith}
 use lib.Dec.{eqb, ltb}
 use lib.ListN.{length}
 use borrow.Author.Tests.{ltb-true}
-use Rattle.le.specs.Le.{leBytes, Bytes}
-use Rattle.le.specs.Laws.{bytes-append, bytes-leBytes}
+use Rattle.octets.specs.le.Le.{leBytes, Bytes}
+use Rattle.octets.specs.le.Laws.{bytes-append, bytes-leBytes}
 use Rattle.varint.specs.Varint.{leb128, varintOf}
 use Rattle.idmap.specs.Encode.{mapHead, rawIds, deltaOf, leftAfter, deltas, restartOf, restarts, intervalOf, mapBytes}
 

@@ -11,11 +11,11 @@ use lib.Seq.{take-at, drop-at}
 use borrow.Author.Tests.{le-leb}
 use Rattle.octets.specs.Round.{round64}
 use Rattle.octets.specs.Zero.{zeros-all}
-use Rattle.le.specs.Le.{leOf, leBytes}
-use Rattle.le.specs.Laws.{leOf-leBytes}
+use Rattle.octets.specs.le.Le.{leOf, leBytes}
+use Rattle.octets.specs.le.Laws.{leOf-leBytes}
 use Rattle.vecseg.specs.Payload.{Line, lineOf, blockCount, filled}
 use Rattle.vecseg.specs.Writer.{padding, directory}
-use Rattle.vec_put.specs.Laid.{length-directory, length-front}
+use Rattle.vec_write.specs.parts.Laid.{length-directory, length-front}
 
 -- the line of the block that a writer writes
 unfoldable pub lineFor : ℕ → ℕ → ℕ → ℕ → Line

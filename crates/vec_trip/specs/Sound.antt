@@ -10,8 +10,8 @@ use lib.Seq.{take-at, drop-at, take-all}
 use borrow.Author.Tests.{le-leb, lt-ltb, eq-eqb}
 use Rattle.octets.specs.Round.{round64, round64-ge}
 use Rattle.octets.specs.Zero.{allZero, zeros-all}
-use Rattle.le.specs.Le.{leOf, leBytes, Bytes}
-use Rattle.le.specs.Laws.{bytes-append, length-leBytes, leOf-leBytes}
+use Rattle.octets.specs.le.Le.{leOf, leBytes, Bytes}
+use Rattle.octets.specs.le.Laws.{bytes-append, length-leBytes, leOf-leBytes}
 use Rattle.crc32c.specs.Crc.{crcOf}
 use Rattle.crc32c.specs.Words.{crcOf-lt}
 use Rattle.idmap.specs.Encode.{mapBytes}
@@ -21,7 +21,7 @@ use Rattle.idmap.specs.Trip.{Words, read-back}
 use Rattle.vecseg.specs.Payload.{Line, lineOf, width, lineBad, firstOf, linesBad, columnsLength, filled, SoundBlock, blockEnd, blockMap, blockOf, blocksBad, blockCount, bodyBad, checkOf}
 use Rattle.vecseg.specs.Writer.{vecBad, vecBytes, blockBytes, padding}
 use Rattle.vec_write.specs.Refusal.{Accepted, accepted}
-use Rattle.vec_put.specs.Laid.{length-block, length-payload}
+use Rattle.vec_write.specs.parts.Laid.{length-block, length-payload}
 use Rattle.vec_trip.specs.MapBytes.{map-bytes}
 use Rattle.vec_trip.specs.Shape.{lineFor, one-block, line-is, block-at, fill-is}
 

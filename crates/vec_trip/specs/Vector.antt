@@ -7,7 +7,7 @@ use native.Mathlib.Nat.{mul-le-mul, mul-comm, suc-mul}
 use native.Mathlib.Omega.{arith}
 use lib.ListN.{length, take, drop, length-append, length-drop}
 use lib.Seq.{drop-drop, drop-append-le, take-append-le, length-take-le}
-use Rattle.le.specs.Le.{leBytes}
+use Rattle.octets.specs.le.Le.{leBytes}
 use Rattle.crc32c.specs.Crc.{crcOf}
 use Rattle.idmap.specs.Encode.{mapBytes}
 use Rattle.vecseg.specs.Payload.{width}

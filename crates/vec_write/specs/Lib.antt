@@ -1,2 +1,3 @@
 -- The vector writer: what it refuses and accepts.
 pub mod Refusal
+pub mod parts

@@ -8,11 +8,11 @@ use native.Mathlib.Omega.{arith}
 use lib.Dec.{eqb, leb, ltb}
 use lib.ListN.{length}
 use borrow.Author.Tests.{le-leb, lt-leb, lt-ltb, le-ltb, eq-eqb, ne-eqb, leb-true, ltb-true, eqb-true}
-use Rattle.limits.specs.Limits.{maxDim}
+use Rattle.answers.specs.limits.Limits.{maxDim}
 use Rattle.idmap.specs.Encode.{mapBad}
 use Rattle.octets.specs.Zero.{and-split}
 use Rattle.idmap.specs.Accepted.{good}
-use Rattle.idmap_refusal.specs.Ways as map
+use Rattle.idmap_write.specs.refusal.Ways as map
 use Rattle.vecseg.specs.Payload.{width}
 use Rattle.vecseg.specs.Writer.{vecBad}
 

@@ -1,4 +1,5 @@
 // The one-block vector writer: 14 for input that breaks a rule, then 9 for a buffer without room; else the payload, and its length.
+pub mod parts;
 ghost use mathlib.Core.Path.{_≡_};
 ghost use Prim.Native.Nat.{_+_, _<_};
 ghost use lib.ListN.{length};
@@ -25,19 +26,19 @@ fn refusal(
     if dim < 1 {
         return 14;
     }
-    if dim > limits::MAX_DIM as u64 {
+    if dim > answers::limits::MAX_DIM as u64 {
         return 14;
     }
     if tier > 255 {
         return 14;
     }
-    if ids.len() > limits::MAX_VECTORS {
+    if ids.len() > answers::limits::MAX_VECTORS {
         return 14;
     }
     if columns.len() as u64 != ids.len() as u64 * dim * w {
         return 14;
     }
-    idmap_refusal::refusal(ids, encoding, interval)
+    idmap_write::refusal::refusal(ids, encoding, interval)
 }
 
 // The payload of one block at the front of a buffer, and its length.
@@ -63,7 +64,7 @@ pub fn write(
     if buf.len() < n {
         return Wrote::Refused(9);
     }
-    vec_put::put_directory(buf, ids.len() as u64, dim, dtype, tier);
-    vec_put::put_block(&mut buf[64..], ids, columns, encoding, interval, end);
+    crate::parts::put_directory(buf, ids.len() as u64, dim, dtype, tier);
+    crate::parts::put_block(&mut buf[64..], ids, columns, encoding, interval, end);
     Wrote::Length(n)
 }

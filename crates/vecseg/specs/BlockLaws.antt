@@ -11,7 +11,7 @@ use lib.Seq.{drop-drop}
 use borrow.Author.Tests.{le-leb, lt-leb, eq-eqb, ne-eqb, leb-true, eqb-true}
 use Rattle.octets.specs.Round.{round64}
 use Rattle.octets.specs.Zero.{allZero}
-use Rattle.le.specs.Le.{leOf, leAt}
+use Rattle.octets.specs.le.Le.{leOf, leAt}
 use Rattle.crc32c.specs.Crc.{crcOf}
 use Rattle.answers.specs.declared.Wrote.{Wrote}
 use Rattle.answers.specs.declared.Wrote.the-variants.{Length, Refused}

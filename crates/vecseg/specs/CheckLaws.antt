@@ -10,8 +10,8 @@ use lib.ListN.{length, take, drop}
 use lib.Seq.{drop-drop}
 use borrow.Author.Tests.{le-leb, lt-leb, leb-true, eqb-true}
 use Rattle.octets.specs.Round.{round64}
-use Rattle.le.specs.Le.{leOf}
-use Rattle.limits.specs.Limits.{maxBlocks}
+use Rattle.octets.specs.le.Le.{leOf}
+use Rattle.answers.specs.limits.Limits.{maxBlocks}
 use Rattle.vecseg.specs.Payload.{Line, lineOf, firstOf, linesBad, filled, BlockRead, SoundBlock, BadBlock, blockOf, blocksBad, blockCount, linesEnd, bodyBad, checkOf}
 use Rattle.vecseg.specs.LineLaws.{LineGood, LinesAt, lines-first, lines-good, lines-on, first-none, first-bad, first-zero}
 use Rattle.octets.specs.Zero.{and-split}

@@ -9,8 +9,8 @@ use lib.Dec.{eqb, leb, ltb}
 use lib.ListN.{length, getD, take, drop}
 use Rattle.octets.specs.Round.{round64}
 use Rattle.octets.specs.Zero.{allZero}
-use Rattle.le.specs.Le.{leOf, leAt}
-use Rattle.limits.specs.Limits.{maxVectors, maxBlocks, maxDim}
+use Rattle.octets.specs.le.Le.{leOf, leAt}
+use Rattle.answers.specs.limits.Limits.{maxVectors, maxBlocks, maxDim}
 use Rattle.crc32c.specs.Crc.{crcOf}
 use Rattle.idmap.specs.Decode.{MapRead, Whole, Broken, mapOf}
 

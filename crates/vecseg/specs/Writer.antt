@@ -6,8 +6,8 @@ use mathlib.Core.List.{List, [], _∷_, _++_}
 use lib.Dec.{eqb, leb, ltb}
 use lib.ListN.{length, replicate}
 use Rattle.octets.specs.Round.{round64}
-use Rattle.le.specs.Le.{leBytes}
-use Rattle.limits.specs.Limits.{maxDim}
+use Rattle.octets.specs.le.Le.{leBytes}
+use Rattle.answers.specs.limits.Limits.{maxDim}
 use Rattle.crc32c.specs.Crc.{crcOf}
 use Rattle.idmap.specs.Encode.{mapBytes, mapBad}
 use Rattle.vecseg.specs.Payload.{width}

@@ -11,11 +11,11 @@ use lib.ListN.{length, take, replicate}
 use lib.Seq.{length-take-le}
 use Rattle.octets.specs.Round.{round64}
 use Rattle.octets.specs.Zero.{allZero}
-use Rattle.le.specs.Le.{leOf}
+use Rattle.octets.specs.le.Le.{leOf}
 use Rattle.answers.specs.Answer.{Accepted}
-use Rattle.chain.specs.Chain.{walk, walkF}
-use Rattle.chain.specs.Last as last
-use Rattle.chain.specs.Last.{Found, upTo}
+use Rattle.segment.specs.chain.Chain.{walk, walkF}
+use Rattle.segment.specs.chain.Last as last
+use Rattle.segment.specs.chain.Last.{Found, upTo}
 use Rattle.segment.specs.Header.{Link, typeHeld, flagsHeld}
 use Rattle.manifest.specs.Sized.{recordBy}
 use Rattle.manifest.specs.Payload.{payloadLength}

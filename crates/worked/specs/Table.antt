@@ -6,12 +6,12 @@ use mathlib.Core.Option.{none}
 use mathlib.Core.List.{List, [], _∷_, _++_}
 use lib.ListN.{length, take, replicate}
 use Rattle.answers.specs.Answer.{Accepted, Refusal}
-use Rattle.le.specs.Le.{leBytes}
+use Rattle.octets.specs.le.Le.{leBytes}
 use Rattle.varint.specs.declared.Varint.the-variants.{Refused}
 use Rattle.varint.specs.Varint.{leb128, varintOf, more, decode, below64, readVarint}
 use Rattle.idmap.specs.Encode.{mapHead, deltaOf, leftAfter, deltas, restartOf, restarts, intervalOf, mapBytes}
-use Rattle.chain.specs.Chain.{walk, walkF}
-use Rattle.chain.specs.Last.{scan, lastConfirmed, openOf}
+use Rattle.segment.specs.chain.Chain.{walk, walkF}
+use Rattle.segment.specs.chain.Last.{scan, lastConfirmed, openOf}
 use Rattle.batch.specs.Form.{bodiesOf}
 use Rattle.appending.specs.Append.{manifestAt, appendAnswer, Appends}
 use Rattle.worked.specs.Ends.{noBodies, oneBody, empty-end, manifest-place, body-end, then-empty}

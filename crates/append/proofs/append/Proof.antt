@@ -6,9 +6,9 @@ use native.Mathlib.Omega.{arith}
 use lib.ListN.{take, length-take}
 use lib.Seq.{length-take-le}
 use borrow.Author.Tests.{not-true, not-false}
-use Rattle.le.specs.Laws.{bytes-take}
+use Rattle.octets.specs.le.Laws.{bytes-take}
 use Rattle.manifest.specs.Opening.{opened}
-use Rattle.opening.specs.Directory.{opened-refused, opened-none, opened-at, opened-end, manifest-room}
+use Rattle.opening.specs.Indexed.{opened-refused, opened-none, opened-at, opened-end, manifest-room}
 use Rattle.append.specs.Ways.{way-room, way-limit, way-none, way-batch, taken-held, way-retire, way-done}
 use Rattle.append.specs.Begins.{base-empty, states-empty, retire-none, retire-some, front-opens, base-later, states-later}
 use borrow.Author.Needs.{needs}

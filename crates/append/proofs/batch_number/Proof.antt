@@ -2,7 +2,7 @@
 -- Assumes nothing.
 use mathlib.Core.Path.{sym, _∙_}
 use borrow.Author.Tests.{not-true, not-false}
-use Rattle.commit.specs.Answer.{number-form, number-vectors}
+use Rattle.append.specs.commit.Answer.{number-form, number-vectors}
 use borrow.Author.Needs.{needs}
 use Rattle.append.proofs.batch_number.Statement.{statement}
 use Rattle.append.proofs.batch_number.Tie as tie

@@ -5,7 +5,7 @@ use mathlib.Core.Path.{_≡_, sym, ap, _∙_}
 use native.Mathlib.Omega.{arith}
 use lib.ListN.{length, take, drop, length-drop, length-replicate}
 use lib.Seq.{length-take-le}
-use Rattle.opening.specs.Directory.{manifest-part, manifest-room, before-offsets}
+use Rattle.opening.specs.Indexed.{manifest-part, manifest-room, before-offsets}
 use Rattle.append.specs.Retiring.{entries-inside, lists-even, marks-held, marks-laid}
 use borrow.Author.Needs.{needs}
 use Rattle.append.proofs.retire_states.Statement.{statement}

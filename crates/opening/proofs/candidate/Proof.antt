@@ -2,7 +2,7 @@
 -- Assumes nothing.
 use mathlib.Core.Path.{refl}
 use native.Mathlib.Omega.{arith}
-use Rattle.chain_index.specs.Offsets.{stored-few}
+use Rattle.segment.specs.index.Offsets.{stored-few}
 use Rattle.opening.specs.Candidate.{candidate-inside, candidate-is}
 use Rattle.opening.proofs.candidate.Statement.{statement}
 use Rattle.opening.proofs.candidate.Tie as tie

@@ -2,7 +2,7 @@
 -- Assumes nothing.
 use native.Mathlib.Omega.{arith}
 use Rattle.opening.specs.Opened.{open-long, open-within}
-use Rattle.opening.specs.Directory.{indexed}
+use Rattle.opening.specs.Indexed.{indexed}
 use borrow.Author.Needs.{needs}
 use Rattle.opening.proofs.open_with.Statement.{statement}
 use Rattle.opening.proofs.open_with.Tie as tie

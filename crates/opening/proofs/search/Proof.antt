@@ -6,8 +6,8 @@ use native.Mathlib.Omega.{arith}
 use lib.ListN.{length}
 use Rattle.octets.specs.Round.{round64, round64-lt}
 use Rattle.segment.specs.Header.{size}
-use Rattle.chain_index.specs.Offsets.{stored-few}
-use Rattle.chain_index.specs.Down.{DownAt, down-first, down-skip, down-not, down-found, down-none, down-link}
+use Rattle.segment.specs.index.Offsets.{stored-few}
+use Rattle.segment.specs.index.Down.{DownAt, down-first, down-skip, down-not, down-found, down-none, down-link}
 use Rattle.manifest.specs.Payload.{confirmed}
 use Rattle.manifest.specs.Opening.{opened}
 use Rattle.opening.specs.Opened.{bounded, found-none, found-at}

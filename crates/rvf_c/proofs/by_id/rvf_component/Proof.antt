@@ -3,7 +3,7 @@
 use mathlib.Core.Path.{_≡_, sym, ap, _∙_}
 use mathlib.Core.List.{[]}
 use Rattle.answers.specs.Out.{out-refused, out-accepted}
-use Rattle.file_vector.specs.Component.{bitsAnswer, bits-same}
+use Rattle.lookup.specs.vector.Component.{bitsAnswer, bits-same}
 use lib.Dec.{lit<}
 use borrow.Author.Needs.{needs}
 use Rattle.rvf_c.proofs.by_id.rvf_component.Statement.{statement}

@@ -3,7 +3,7 @@
 use mathlib.Core.Path.{_≡_, sym, ap, _∙_}
 use mathlib.Core.List.{[]}
 use Rattle.answers.specs.Out.{out-refused, out-accepted}
-use Rattle.locate_payload.specs.Place.{placeAnswer, place-same}
+use Rattle.lookup.specs.place.Place.{placeAnswer, place-same}
 use lib.Dec.{lit<}
 use borrow.Author.Needs.{needs}
 use Rattle.rvf_c.proofs.by_id.rvf_payload.Statement.{statement}

@@ -3,7 +3,7 @@
 use mathlib.Core.Path.{_≡_, sym, ap, _∙_}
 use mathlib.Core.List.{[]}
 use Rattle.answers.specs.Out.{out-refused, out-accepted}
-use Rattle.directory.specs.Entry.{entryCaseAnswer, entry-same}
+use Rattle.opening.specs.directory.Entry.{entryCaseAnswer, entry-same}
 use lib.Dec.{lit<}
 use borrow.Author.Needs.{needs}
 use Rattle.rvf_c.proofs.files.rvf_entry.Statement.{statement}

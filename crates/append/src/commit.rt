@@ -1,0 +1,81 @@
+// The last part of an append, behind the tests of the file, the batch and the ids: the limits, then all is written.
+ghost use mathlib.Core.Path.{_≡_};
+ghost use mathlib.Core.Bool.{true};
+ghost use Prim.Native.Nat.{_+_, _-_, _≤_, _<_, _^_};
+ghost use lib.Dec.{ltb};
+ghost use lib.ListN.{length, take};
+ghost use Rattle.segment.specs.index.Offsets.{most};
+ghost use Rattle.manifest.specs.Opening.{opened};
+ghost use Rattle.batch.specs.Form.{batchHeld, bodiesOf};
+ghost use Rattle.append.specs.commit.Answer.{appendedAnswer};
+ghost use Rattle.append.specs.commit.Late.{nextOf, lateAnswer, lateBuffer};
+ghost use Rattle.append.specs.commit.Base.{Base};
+
+// What an append answers: the new end, the manifest's id and the number of its entries; or the number of a refusal.
+pub enum Appended {
+    At { end: usize, id: u64, count: usize },
+    Refused(u32),
+}
+
+// Whether the new manifest's id would pass the largest number: ids go on from `last`, or from 0 in an empty file.
+fn ids_over(first: bool, last: u64, m: u64) -> bool
+    requires { ⌜ m ≤ 16 ⌝ }
+    ensures { λ r. ⌜ r ≡ ltb (2 ^ 64 - 1) (nextOf first last + m) ⌝ }
+{
+    if first {
+        return false;
+    }
+    0xFFFFFFFFFFFFFFFF - last <= m
+}
+
+// The next id.
+fn next_id(first: bool, last: u64) -> u64
+    requires { ⌜ nextOf first last < 2 ^ 64 ⌝ }
+    ensures { λ r. ⌜ r ≡ nextOf first last ⌝ }
+{
+    if first {
+        return 0;
+    }
+    last + 1
+}
+
+// The rest of an append, behind the tests of the file, the batch and the ids: 12, 13, 1, 9; then all is written. The file is what is kept, the bytes
+// up to the start.
+pub fn finish(
+    buf: &mut [u8],
+    batch: &[u8],
+    start: usize,
+    kept: usize,
+    first: bool,
+    last: u64,
+    timestamp: u64,
+    offsets: &mut [u64],
+    states: &[u8],
+) -> Appended
+    requires { ⌜ (batchHeld (now batch) ≡ true) × ((length (now offsets) ≡ most) × (length (now states) ≡ 1024)) ⌝ }
+    requires { ⌜ Base (take start (now buf)) (now offsets) start kept first last ⌝ }
+    ensures { λ r. ⌜ appendedAnswer r ≡ lateAnswer (length (now (buf .entry))) (opened (take start (now (buf .entry)))) (bodiesOf (now (batch .entry))) ⌝ }
+    ensures { λ _. ⌜ now (buf .exit) ≡ lateBuffer (opened (take start (now (buf .entry)))) (now (buf .entry)) (bodiesOf (now (batch .entry))) (now (states .entry)) timestamp ⌝ }
+{
+    let m = octets::le::u32_at(batch, 0) as usize;
+    let count = kept + m;
+    if count > answers::limits::MAX_ENTRIES {
+        return Appended::Refused(12);
+    }
+    if ids_over(first, last, m as u64) {
+        return Appended::Refused(13);
+    }
+    let next = next_id(first, last);
+    let at = crate::bodies::bodies_end(batch, start);
+    let end = at + 64 + octets::round_up(octets::round_up(8 + 48 * count) + 4096);
+    if end > answers::limits::MAX_FILE {
+        return Appended::Refused(1);
+    }
+    if end > buf.len() {
+        return Appended::Refused(9);
+    }
+    let id = next + m as u64;
+    crate::bodies::put_bodies(buf, batch, start, next, timestamp, offsets, kept);
+    crate::new_manifest::put_manifest(buf, at, id, timestamp, &offsets[..count], &states[..count]);
+    Appended::At { end, id, count }
+}

@@ -1,0 +1,29 @@
+// The manifest that an append ends with, written as a segment.
+ghost use mathlib.Core.Path.{_≡_};
+ghost use Prim.Native.Nat.{_+_, _≤_};
+ghost use lib.ListN.{length, take};
+ghost use Rattle.octets.specs.Over.{over};
+ghost use Rattle.octets.specs.Round.{round64};
+ghost use Rattle.segment.specs.Written.{segment};
+ghost use Rattle.manifest.specs.Payload.{payloadLength};
+ghost use Rattle.confirm.specs.entries.At.{Inside, payloadAt};
+
+// The manifest of the links at some offsets, with their states, as a segment at a place. Its payload is put together in a list of our own, since the
+// headers that it copies stand in the same buffer.
+pub fn put_manifest(
+    buf: &mut [u8],
+    at: usize,
+    id: u64,
+    timestamp: u64,
+    offsets: &[u64],
+    states: &[u8],
+)
+    requires { ⌜ (length (now offsets) ≤ 1024) × (length (now offsets) ≤ length (now states)) ⌝ }
+    requires { ⌜ (at + (64 + round64 (payloadLength (length (now offsets)))) ≤ length (now buf)) × (at ≤ 16777216) ⌝ }
+    requires { ⌜ Inside (take at (now buf)) (now offsets) ⌝ }
+    ensures { λ _. ⌜ now (buf .exit) ≡ over (now (buf .entry)) at (segment 5 0 id timestamp (payloadAt (take at (now (buf .entry))) (now (offsets .entry)) (now (states .entry)) at id)) ⌝ }
+{
+    let mut payload = [0u8; 53312];
+    let n = confirm::payload::put_payload(&mut payload, &buf[..at], offsets, states, at as u64, id);
+    segment::write::put_segment(&mut buf[at..], 0x05, 0, id, timestamp, &payload[..n]);
+}

@@ -1,0 +1,33 @@
+-- `start_of` meets its contract, by what opening answers.
+-- Assumes nothing.
+use mathlib.Core.Path.{sym, _∙_}
+use Rattle.claim_uses.specs.cut.CutRead.{start-refused, start-none, start-at}
+use borrow.Author.Needs.{needs}
+use Rattle.claim_uses.proofs.cut.start_of.Statement.{statement}
+use Rattle.claim_uses.proofs.cut.start_of.Tie as tie
+
+open-requires : tie.Need-open-requires
+open-requires c κs = search needs
+
+enum-told : tie.Need-enum-told
+enum-told c = search needs
+
+enum-told-2 : tie.Need-enum-told-2
+enum-told-2 c = search needs
+
+enum-known-o : tie.Need-enum-known-o
+enum-known-o c = search needs
+
+returns : tie.Need-returns
+returns c = λ h. start-refused _ _ (sym (c .before .before .«open» .ensures) ∙ c .enum-told .given .1) h
+
+returns-2 : tie.Need-returns-2
+returns-2 c = λ h. start-none _ _ (sym (c .before .before .«open» .ensures) ∙ c .enum-told2 .given .1)
+
+returns-3 : tie.Need-returns-3
+returns-3 c = λ h. start-at _ _ _ _ _ _ (sym (c .before .before .before .«open» .ensures) ∙ c .before .o .given .1)
+
+pub start-of-spec : {M : Type 1} → statement M
+start-of-spec =
+    tie.close
+    (tie.spec open-requires enum-told enum-told-2 enum-known-o returns returns-2 returns-3)

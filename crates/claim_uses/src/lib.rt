@@ -1,0 +1,2 @@
+pub mod cut;
+pub mod twice;

@@ -1,0 +1,54 @@
+// A manifest's entries, written from the file's own headers: an entry is copied from the header that stands at the link's place.
+ghost use mathlib.Core.Path.{_≡_};
+ghost use mathlib.Core.List.{[], _∷_};
+ghost use Prim.Native.Nat.{_+_, _*_, _≤_, _<_};
+ghost use lib.ListN.{length, take, drop};
+ghost use Rattle.octets.specs.Over.{over};
+ghost use Rattle.confirm.specs.entries.At.{Inside, entryAt, entriesAt};
+
+// Some bytes of the file, at a place of a buffer.
+fn copy_at(buf: &mut [u8], at: usize, file: &[u8], from: usize, n: usize)
+    requires { ⌜ (at + n ≤ length (now buf)) × (from + n ≤ length (now file)) ⌝ }
+    ensures { λ _. ⌜ now (buf .exit) ≡ over (now (buf .entry)) at (take n (drop from (now (file .entry)))) ⌝ }
+{
+    let to = from + n;
+    octets::copy(&mut buf[at..], &file[from..to]);
+}
+
+// One byte at a place.
+fn put_byte(buf: &mut [u8], at: usize, b: u8)
+    requires { ⌜ at < length (now buf) ⌝ }
+    ensures { λ _. ⌜ now (buf .exit) ≡ over (now (buf .entry)) at (b ∷ []) ⌝ }
+{
+    buf[at] = b;
+}
+
+// The entry of the link at an offset, with its state: offset, id, payload length, hash, type, state, flags, zeros.
+pub fn put_entry(buf: &mut [u8], at: usize, file: &[u8], offset: usize, state: u8)
+    requires { ⌜ (at + 48 ≤ length (now buf)) × (offset + 64 ≤ length (now file)) ⌝ }
+    ensures { λ _. ⌜ now (buf .exit) ≡ over (now (buf .entry)) at (entryAt (now (file .entry)) offset state) ⌝ }
+{
+    let kind = file[offset + 0x05];
+    octets::le::put(buf, at, 8, offset as u64);
+    copy_at(buf, at + 8, file, offset + 0x08, 16);
+    copy_at(buf, at + 24, file, offset + 0x28, 16);
+    put_byte(buf, at + 40, kind);
+    put_byte(buf, at + 41, state);
+    copy_at(buf, at + 42, file, offset + 0x06, 2);
+    octets::le::put(buf, at + 44, 4, 0);
+}
+
+// The entries of the links at some offsets, right behind the record's eight bytes.
+pub fn put_entries(buf: &mut [u8], file: &[u8], offsets: &[u64], states: &[u8])
+    requires { ⌜ (8 + 48 * length (now offsets) ≤ length (now buf)) × (length (now offsets) ≤ length (now states)) ⌝ }
+    requires { ⌜ Inside (now file) (now offsets) ⌝ }
+    ensures { λ _. ⌜ now (buf .exit) ≡ over (now (buf .entry)) 8 (entriesAt (now (file .entry)) (now (offsets .entry)) (now (states .entry))) ⌝ }
+{
+    let mut i: usize = 0;
+    while i < offsets.len() {
+        let offset = offsets[i];
+        let state = states[i];
+        put_entry(buf, 8 + 48 * i, file, offset as usize, state);
+        i += 1;
+    }
+}

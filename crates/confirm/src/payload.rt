@@ -1,0 +1,68 @@
+// A manifest's payload written: its record of the entries, and the root behind it with its checksum.
+ghost use mathlib.Core.Path.{_≡_};
+ghost use Prim.Native.Nat.{_+_, _-_, _*_, _≤_, _<_, _^_};
+ghost use lib.ListN.{length, replicate};
+ghost use Rattle.octets.specs.Over.{over};
+ghost use Rattle.octets.specs.Round.{round64};
+ghost use Rattle.manifest.specs.Payload.{payloadLength, root};
+ghost use Rattle.confirm.specs.entries.At.{Inside, payloadAt};
+
+// The bytes that a root begins with.
+const NAME: [u8; 4] = [0x52, 0x56, 0x4D, 0x30];
+
+// Zeros from a place to another.
+fn clear_part(buf: &mut [u8], from: usize, to: usize)
+    requires { ⌜ (from ≤ to) × (to ≤ length (now buf)) ⌝ }
+    ensures { λ _. ⌜ now (buf .exit) ≡ over (now (buf .entry)) from (replicate (to - from) 0) ⌝ }
+{
+    octets::clear(&mut buf[from..to]);
+}
+
+// The root of a manifest with c entries at the front of a buffer. Its checksum is taken of the bytes before it.
+pub fn put_root(buf: &mut [u8], c: usize, offset: u64, id: u64)
+    requires { ⌜ 4096 ≤ length (now buf) ⌝ }
+    requires { ⌜ offset + 64 + round64 (payloadLength c) < 2 ^ 64 ⌝ }
+    ensures { λ _. ⌜ now (buf .exit) ≡ over (now (buf .entry)) 0 (root c offset id) ⌝ }
+{
+    let long = 8 + 48 * c;
+    let size = octets::round_up(octets::round_up(long) + 4096);
+    let end = offset + 64 + size as u64;
+    octets::copy(buf, &NAME);
+    octets::le::put(buf, 4, 2, 1);
+    octets::le::put(buf, 6, 2, c as u64);
+    octets::le::put(buf, 8, 8, offset);
+    octets::le::put(buf, 16, 8, id);
+    octets::le::put(buf, 24, 8, long as u64);
+    octets::le::put(buf, 32, 8, end);
+    clear_part(buf, 40, 4092);
+    let crc = crc32c::checksum(&buf[..4092]);
+    octets::le::put(buf, 4092, 4, crc as u64);
+}
+
+// The payload of a manifest at an offset, with an id, over the links at some offsets with their states; and its length.
+pub fn put_payload(
+    buf: &mut [u8],
+    file: &[u8],
+    offsets: &[u64],
+    states: &[u8],
+    offset: u64,
+    id: u64,
+) -> usize
+    requires { ⌜ (payloadLength (length (now offsets)) ≤ length (now buf)) × (length (now offsets) ≤ length (now states)) ⌝ }
+    requires { ⌜ Inside (now file) (now offsets) ⌝ }
+    requires { ⌜ offset + 64 + round64 (payloadLength (length (now offsets))) < 2 ^ 64 ⌝ }
+    ensures { λ r. ⌜ r ≡ payloadLength (length (now (offsets .entry))) ⌝ }
+    ensures { λ _. ⌜ now (buf .exit) ≡ over (now (buf .entry)) 0 (payloadAt (now (file .entry)) (now (offsets .entry)) (now (states .entry)) offset id) ⌝ }
+{
+    let c = offsets.len();
+    let long = 48 * c;
+    let end = 8 + long;
+    let filled = octets::round_up(end);
+    octets::le::put(buf, 0, 2, 1);
+    octets::le::put(buf, 2, 4, long as u64);
+    octets::le::put(buf, 6, 2, 0);
+    crate::entries::put_entries(buf, file, offsets, states);
+    clear_part(buf, end, filled);
+    put_root(&mut buf[filled..], c, offset, id);
+    filled + 4096
+}

@@ -1,0 +1,93 @@
+// The ids of a delta map, whose head is read already: restart offsets, and a varint for each id.
+ghost use mathlib.Core.Path.{_≡_};
+ghost use Prim.Native.Nat.{_+_, _≤_, _<_};
+ghost use lib.ListN.{length, drop};
+ghost use Rattle.idmap.specs.Decode.{deltaMap, mapAnswer};
+ghost use Rattle.idmap.specs.DecodeLaws.{lowOf, Filled};
+ghost use Rattle.idmap.specs.DeltaLaws.{groupAfter};
+ghost use Rattle.idmap_read.specs.delta.Next.{nextOf};
+use answers::Wrote;
+use varint::Varint;
+
+// What a varint of a delta map says as the next id.
+pub enum NextId {
+    Id(u64),
+    Refused(u32),
+}
+
+// The id that a varint gives: the first of a group stands where its restart offset says and is absolute, the others are differences.
+fn next_id(
+    s: &[u8],
+    i: usize,
+    left: usize,
+    prev: u64,
+    at: usize,
+    offset: usize,
+    value: u64,
+) -> NextId
+    requires { ⌜ (left ≡ 0 → offset + 4 ≤ length (now s)) × (i ≡ 0 → left ≡ 0) ⌝ }
+    ensures { λ r. ⌜ r ≡ nextOf left (lowOf i prev) at (drop offset (now (s .entry))) value ⌝ }
+{
+    if left == 0 {
+        if octets::le::u32_at(s, offset) as usize != at {
+            return NextId::Refused(5);
+        }
+        if idmap::rises(i, prev, value) {
+            return NextId::Id(value);
+        }
+        return NextId::Refused(5);
+    }
+    if value == 0 {
+        return NextId::Refused(5);
+    }
+    if value > 18446744073709551615 - prev {
+        return NextId::Refused(5);
+    }
+    NextId::Id(prev + value)
+}
+
+// How many groups have begun behind one id.
+fn group_after(left: usize, g: usize) -> usize
+    requires { ⌜ g ≤ 4096 ⌝ }
+    ensures { λ x. ⌜ x ≡ groupAfter left g ⌝ }
+{
+    if left == 0 { g + 1 } else { g }
+}
+
+// The ids of a delta map with restarts every r, whose head is read already.
+pub fn decode_delta(s: &[u8], count: usize, r: usize, ids: &mut [u64]) -> Wrote
+    requires { ⌜ (count ≤ 4096) × ((count ≤ length (now ids)) × ((0 < r) × (r < 65536))) ⌝ }
+    ensures { λ a. ⌜ a ≡ mapAnswer (deltaMap r count (now (s .entry))) ⌝ }
+    ensures { λ _. ⌜ Filled (deltaMap r count (now (s .entry))) (now (ids .exit)) ⌝ }
+{
+    let start = 7 + 4 * ((count + (r - 1)) / r);
+    if s.len() < start {
+        return Wrote::Refused(5);
+    }
+    let mut i: usize = 0;
+    let mut left: usize = 0;
+    let mut prev: u64 = 0;
+    let mut pos = start;
+    let mut g: usize = 0;
+    while i < count {
+        let v = varint::read_at(s, pos);
+        match v {
+            Varint::Refused(_) => return Wrote::Refused(5),
+            Varint::Value { value, length } => {
+                let x = next_id(s, i, left, prev, pos - start, 7 + 4 * g, value);
+                match x {
+                    NextId::Refused(_) => return Wrote::Refused(5),
+                    NextId::Id(id) => {
+                        ids[i] = id;
+                        prev = id;
+                        pos += length;
+                        g = group_after(left, g);
+                        left = idmap::left_after(r, left);
+                        i += 1;
+                    }
+                }
+            }
+        }
+    }
+    Wrote::Length(pos)
+}

@@ -1,0 +1,81 @@
+-- `idmap_encode::put_deltas` meets its contract, by where its loop stands.
+-- Assumes nothing.
+use Prim.Native.Nat.{_-_}
+use mathlib.Core.Path.{_≡_, sym, ap, _∙_}
+use native.Mathlib.Omega.{arith}
+use lib.ListN.{length}
+use Rattle.varint.specs.Varint.{varintOf}
+use Rattle.idmap.specs.EncodeLaws.{ids-first, ids-above}
+use Rattle.idmap_write.specs.encode.Put.{PutAt, put-first, put-offs, put-vars, put-behind, put-next, put-last}
+use borrow.Author.Needs.{needs}
+use Rattle.idmap_write.proofs.encode.put_deltas.Statement.{statement}
+use Rattle.idmap_write.proofs.encode.put_deltas.Tie as tie
+
+abbrev Inv-loop : tie.InvT-loop
+Inv-loop buf₀ ids r start i₀ left₀ prev₀ place₀ pos₀ buf i left prev place pos = PutAt buf₀ buf ids r start i left prev place pos
+
+abbrev μ-loop : tie.MeasureT-loop
+μ-loop buf₀ ids r start i₀ left₀ prev₀ place₀ pos₀ buf i left prev place pos = length ids - i
+
+loop-holds : tie.Need-loop-holds Inv-loop μ-loop
+loop-holds c = put-first _ _ _ _ (ids-first _ (c .before .before .pre .0 .1))
+
+mul-x : tie.Need-mul-x Inv-loop μ-loop
+mul-x c = search needs
+
+shared-slice-read-x : tie.Need-shared-slice-read-x Inv-loop μ-loop
+shared-slice-read-x c = search needs
+
+delta-requires : tie.Need-delta-requires Inv-loop μ-loop
+delta-requires c κs = ids-above _ _ _ _ (c .before .before .loop .inv .at) (omega arith)
+
+sub-put-restart : tie.Need-sub-put-restart Inv-loop μ-loop
+sub-put-restart c = omega (arith, put-behind _ _ _ _ _ _ _ _ _ _ (c .before .before .before .before .loop .inv) (omega arith) (c .before .before .before .before .before .before .before .pre .1 .0) (c .before .before .before .before .before .before .before .pre .1 .1))
+
+put-restart-requires : tie.Need-put-restart-requires Inv-loop μ-loop
+put-restart-requires c κs = put-offs _ _ _ _ _ _ _ _ _ _ (c .before .before .before .before .loop .inv) (omega arith) (c .before .before .before .before .before .before .before .pre .1 .0) (c .before .before .before .before .before .before .before .pre .1 .1)
+
+put-requires : tie.Need-put-requires Inv-loop μ-loop
+put-requires c κs = rw (c .before .before .before .before .before .delta .ensures) (omega (arith, c .before .before .before .put-restart .kept .0, put-vars _ _ _ _ _ _ _ _ _ _ (c .before .before .before .before .before .before .before .before .loop .inv) (omega arith) (c .before .before .before .before .before .before .before .before .before .before .before .pre .1 .0) (c .before .before .before .before .before .before .before .before .before .before .before .pre .1 .1)))
+
+left-after-requires : tie.Need-left-after-requires Inv-loop μ-loop
+left-after-requires c κs = search needs
+
+add-i : tie.Need-add-i Inv-loop μ-loop
+add-i c = search needs
+
+loop-less : tie.Need-loop-less Inv-loop μ-loop
+loop-less c = search needs
+
+loop-again : tie.Need-loop-again Inv-loop μ-loop
+loop-again c =
+    let d = c .before .before .before .before .before .before .before .before .before .delta .ensures in
+    rw (c .left-after .ensures)
+    (put-next _ _ _ _ _ _ _ _ _ _ (c .before .before .before .before .before .before .before .before .before .before .before .before .loop .inv) (omega arith) (c .before .before .before .before .before .before .before .before .before .before .before .before .before .before .before .pre .1 .0) (c .before .before .before .before .before .before .before .before .before .before .before .before .before .before .before .pre .1 .1) _ _ _ _ (c .before .before .before .before .before .before .before .put-restart .ensures .1) (c .before .before .before .before .before .before .before .put-restart .ensures .0)
+    (rw d at (c .before .before .before .put .ensures .1)) (rw d at (c .before .before .before .put .ensures .0)) (c .before .before .before .put .kept .0 ∙ c .before .before .before .before .before .before .before .put-restart .kept .0))
+
+same-length : tie.Need-same-length Inv-loop μ-loop
+same-length c = c .before .loop .inv .long
+
+returns : tie.Need-returns Inv-loop μ-loop
+returns c = put-last _ _ _ _ _ _ _ _ _ _ (c .before .loop .inv) (omega arith) (c .before .before .before .before .pre .1 .0) (c .before .before .before .before .pre .1 .1)
+
+pub put-deltas-spec : {M : Type 1} → statement M
+put-deltas-spec =
+    tie.close
+    (tie.spec
+    Inv-loop
+    μ-loop
+    loop-holds
+    mul-x
+    shared-slice-read-x
+    delta-requires
+    sub-put-restart
+    put-restart-requires
+    put-requires
+    left-after-requires
+    add-i
+    loop-less
+    loop-again
+    same-length
+    returns)

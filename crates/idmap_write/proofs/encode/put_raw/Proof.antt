@@ -1,0 +1,66 @@
+-- `idmap_encode::put_raw` meets its contract, by where its loop stands.
+-- Assumes nothing.
+use Prim.Native.Nat.{_-_}
+use native.Mathlib.Omega.{arith}
+use lib.ListN.{length}
+use Rattle.idmap_write.specs.encode.Put.{RawPut, raw-first, raw-next, raw-last}
+use borrow.Author.Needs.{needs}
+use Rattle.idmap_write.proofs.encode.put_raw.Statement.{statement}
+use Rattle.idmap_write.proofs.encode.put_raw.Tie as tie
+
+abbrev Inv-loop : tie.InvT-loop
+Inv-loop buf₀ ids i₀ buf i = RawPut buf₀ buf ids i
+
+abbrev μ-loop : tie.MeasureT-loop
+μ-loop buf₀ ids i₀ buf i = length ids - i
+
+loop-holds : tie.Need-loop-holds Inv-loop μ-loop
+loop-holds c = raw-first _ _
+
+mul-x : tie.Need-mul-x Inv-loop μ-loop
+mul-x c = search needs
+
+shared-slice-read-x : tie.Need-shared-slice-read-x Inv-loop μ-loop
+shared-slice-read-x c = search needs
+
+mul-put : tie.Need-mul-put Inv-loop μ-loop
+mul-put c = search needs
+
+add-put : tie.Need-add-put Inv-loop μ-loop
+add-put c = search needs
+
+put-requires : tie.Need-put-requires Inv-loop μ-loop
+put-requires c κs = let long = c .before .before .before .loop .inv .long in omega arith
+
+add-i : tie.Need-add-i Inv-loop μ-loop
+add-i c = search needs
+
+loop-less : tie.Need-loop-less Inv-loop μ-loop
+loop-less c = search needs
+
+loop-again : tie.Need-loop-again Inv-loop μ-loop
+loop-again c = raw-next _ _ _ _ (c .before .before .before .before .before .before .loop .i) (c .before .before .before .before .before .before .loop .inv) (omega arith) (c .before .before .before .before .before .before .before .before .before .pre) (c .before .before .put .ensures) (c .before .before .put .kept .0)
+
+same-length : tie.Need-same-length Inv-loop μ-loop
+same-length c = c .before .loop .inv .long
+
+returns : tie.Need-returns Inv-loop μ-loop
+returns c = raw-last _ _ _ (c .before .loop .i) (c .before .loop .inv) (omega arith)
+
+pub put-raw-spec : {M : Type 1} → statement M
+put-raw-spec =
+    tie.close
+    (tie.spec
+    Inv-loop
+    μ-loop
+    loop-holds
+    mul-x
+    shared-slice-read-x
+    mul-put
+    add-put
+    put-requires
+    add-i
+    loop-less
+    loop-again
+    same-length
+    returns)

@@ -1,0 +1,60 @@
+-- `idmap_refusal::rising` meets its contract, by where its loop stands.
+-- Assumes nothing.
+use Prim.Native.Nat.{_-_}
+use mathlib.Core.Path.{_≡_, sym, _∙_}
+use native.Mathlib.Omega.{arith}
+use lib.ListN.{length}
+use borrow.Author.Tests.{not-true, not-false}
+use Rattle.idmap_write.specs.refusal.Ways.{RiseAt, rise-first, rise-next, rise-stop, rise-last}
+use borrow.Author.Needs.{needs}
+use Rattle.idmap_write.proofs.refusal.rising.Statement.{statement}
+use Rattle.idmap_write.proofs.refusal.rising.Tie as tie
+
+abbrev Inv-loop : tie.InvT-loop
+Inv-loop ids i₀ prev₀ i prev = RiseAt ids i prev
+
+abbrev μ-loop : tie.MeasureT-loop
+μ-loop ids i₀ prev₀ i prev = length ids - i
+
+loop-holds : tie.Need-loop-holds Inv-loop μ-loop
+loop-holds c = rise-first _
+
+mul-x : tie.Need-mul-x Inv-loop μ-loop
+mul-x c = search needs
+
+shared-slice-read-x : tie.Need-shared-slice-read-x Inv-loop μ-loop
+shared-slice-read-x c = search needs
+
+rises-requires : tie.Need-rises-requires Inv-loop μ-loop
+rises-requires c κs = search needs
+
+returns : tie.Need-returns Inv-loop μ-loop
+returns c = rise-stop _ _ _ (c .before .before .before .before .loop .inv) (omega arith) (sym (c .before .rises .ensures) ∙ not-true _ (c .if1 .taken))
+
+add-i : tie.Need-add-i Inv-loop μ-loop
+add-i c = search needs
+
+loop-less : tie.Need-loop-less Inv-loop μ-loop
+loop-less c = search needs
+
+loop-again : tie.Need-loop-again Inv-loop μ-loop
+loop-again c = rise-next _ _ _ (c .before .before .before .before .loop .inv) (omega arith) (sym (c .before .rises .ensures) ∙ not-false _ (c .if1 .left))
+
+returns-2 : tie.Need-returns-2 Inv-loop μ-loop
+returns-2 c = rise-last _ _ _ (c .before .loop .inv) (omega arith)
+
+pub rising-spec : {M : Type 1} → statement M
+rising-spec =
+    tie.close
+    (tie.spec
+    Inv-loop
+    μ-loop
+    loop-holds
+    mul-x
+    shared-slice-read-x
+    rises-requires
+    returns
+    add-i
+    loop-less
+    loop-again
+    returns-2)

@@ -1,0 +1,109 @@
+-- `list_entries::put_entries` meets its contract, by how many entries are written.
+-- Assumes nothing.
+use Prim.Native.Nat.{_-_}
+use native.Mathlib.Omega.{arith}
+use Rattle.octets.specs.text.Written.{same-room}
+use Rattle.opening.specs.Indexed.{entry-at}
+use Rattle.listing.specs.entries.Entries.{EntriesAt, entries-first, entries-next, entries-last}
+use Rattle.listing.proofs.entries.put_entries.Statement.{statement}
+use Rattle.listing.proofs.entries.put_entries.Tie as tie
+
+abbrev Inv-loop : tie.InvT-loop
+Inv-loop text₀ at file offsets manifest count end₀ i₀ text end i = EntriesAt file text₀ text at count i end
+
+abbrev μ-loop : tie.MeasureT-loop
+μ-loop text₀ at file offsets manifest count end₀ i₀ text end i = count - i
+
+loop-holds : tie.Need-loop-holds Inv-loop μ-loop
+loop-holds c = entries-first _ _ _ _ (omega arith)
+
+mul-p : tie.Need-mul-p Inv-loop μ-loop
+mul-p c =
+    let m = c .before .before .before .before .before .pre .1 .1 in
+    let a = entry-at _ _ _ _ (λ k. omega (arith, c .before .before .before .shared-slice-known .given k)) (c .before .before .before .before .before .pre .1 .0) (c .before .before .before .before .before .pre .0 .0) m (c .before .loop .i) (omega arith) in
+    omega (arith, a .stored, a .few)
+
+shared-slice-read-p : tie.Need-shared-slice-read-p Inv-loop μ-loop
+shared-slice-read-p c =
+    let m = c .before .before .before .before .before .before .pre .1 .1 in
+    let a = entry-at _ _ _ _ (λ k. omega (arith, c .before .before .before .before .shared-slice-known .given k)) (c .before .before .before .before .before .before .pre .1 .0) (c .before .before .before .before .before .before .pre .0 .0) m (c .before .before .loop .i) (omega arith) in
+    omega (arith, a .stored, a .few)
+
+add-put-entry : tie.Need-add-put-entry Inv-loop μ-loop
+add-put-entry c =
+    let m = c .before .before .before .before .before .before .before .pre .1 .1 in
+    let a = entry-at _ _ _ _ (λ k. omega (arith, c .before .before .before .before .before .shared-slice-known .given k)) (c .before .before .before .before .before .before .before .pre .1 .0) (c .before .before .before .before .before .before .before .pre .0 .0) m (c .before .before .before .loop .i) (omega arith) in
+    omega (arith, a .state-room, m .within, a .few)
+
+mul-put-entry : tie.Need-mul-put-entry Inv-loop μ-loop
+mul-put-entry c =
+    let m = c .before .before .before .before .before .before .before .pre .1 .1 in
+    let a = entry-at _ _ _ _ (λ k. omega (arith, c .before .before .before .before .before .shared-slice-known .given k)) (c .before .before .before .before .before .before .before .pre .1 .0) (c .before .before .before .before .before .before .before .pre .0 .0) m (c .before .before .before .loop .i) (omega arith) in
+    omega (arith, a .state-room, m .within, a .few)
+
+add-put-entry-2 : tie.Need-add-put-entry-2 Inv-loop μ-loop
+add-put-entry-2 c =
+    let m = c .before .before .before .before .before .before .before .pre .1 .1 in
+    let a = entry-at _ _ _ _ (λ k. omega (arith, c .before .before .before .before .before .shared-slice-known .given k)) (c .before .before .before .before .before .before .before .pre .1 .0) (c .before .before .before .before .before .before .before .pre .0 .0) m (c .before .before .before .loop .i) (omega arith) in
+    omega (arith, a .state-room, m .within, a .few)
+
+add-put-entry-3 : tie.Need-add-put-entry-3 Inv-loop μ-loop
+add-put-entry-3 c =
+    let m = c .before .before .before .before .before .before .before .pre .1 .1 in
+    let a = entry-at _ _ _ _ (λ k. omega (arith, c .before .before .before .before .before .shared-slice-known .given k)) (c .before .before .before .before .before .before .before .pre .1 .0) (c .before .before .before .before .before .before .before .pre .0 .0) m (c .before .before .before .loop .i) (omega arith) in
+    omega (arith, a .state-room, m .within, a .few)
+
+shared-slice-read-put-entry : tie.Need-shared-slice-read-put-entry Inv-loop μ-loop
+shared-slice-read-put-entry c =
+    let m = c .before .before .before .before .before .before .before .before .pre .1 .1 in
+    let a = entry-at _ _ _ _ (λ k. omega (arith, c .before .before .before .before .before .before .shared-slice-known .given k)) (c .before .before .before .before .before .before .before .before .pre .1 .0) (c .before .before .before .before .before .before .before .before .pre .0 .0) m (c .before .before .before .before .loop .i) (omega arith) in
+    omega (arith, a .state-room, m .within, a .few)
+
+put-entry-requires : tie.Need-put-entry-requires Inv-loop μ-loop
+put-entry-requires c κs =
+    let m = c .before .before .before .before .before .before .before .before .pre .1 .1 in
+    let a = entry-at _ _ _ _ (λ k. omega (arith, c .before .before .before .before .before .before .shared-slice-known .given k)) (c .before .before .before .before .before .before .before .before .pre .1 .0) (c .before .before .before .before .before .before .before .before .pre .0 .0) m (c .before .before .before .before .loop .i) (omega arith) in
+    let s = same-room (c .before .before .before .before .loop .inv .writes) in
+    (omega (arith, a .numbered .room, a .numbered .length-is), omega (arith, c .before .before .before .before .loop .inv .short, c .before .before .before .before .before .before .before .before .pre .0 .1))
+
+add-i : tie.Need-add-i Inv-loop μ-loop
+add-i c =
+    let m = c .before .before .before .before .before .before .before .before .before .before .before .pre .1 .1 in
+    let a = entry-at _ _ _ _ (λ k. omega (arith, c .before .before .before .before .before .before .before .before .before .shared-slice-known .given k)) (c .before .before .before .before .before .before .before .before .before .before .before .pre .1 .0) (c .before .before .before .before .before .before .before .before .before .before .before .pre .0 .0) m (c .before .before .before .before .before .before .before .loop .i) (omega arith) in
+    omega (arith, a .few)
+
+loop-less : tie.Need-loop-less Inv-loop μ-loop
+loop-less c = omega arith
+
+loop-again : tie.Need-loop-again Inv-loop μ-loop
+loop-again c =
+    let m = c .before .before .before .before .before .before .before .before .before .before .before .pre .1 .1 in
+    let a = entry-at _ _ _ _ (λ k. omega (arith, c .before .before .before .before .before .before .before .before .before .shared-slice-known .given k)) (c .before .before .before .before .before .before .before .before .before .before .before .pre .1 .0) (c .before .before .before .before .before .before .before .before .before .before .before .pre .0 .0) m (c .before .before .before .before .before .before .before .loop .i) (omega arith) in
+    entries-next _ _ _ m _ _ (omega arith) a _ _ _ _ _ _ (c .before .before .before .before .before .before .before .loop .inv) (c .before .before .put-entry .ensures .0) (c .before .before .put-entry .ensures .1)
+
+same-length : tie.Need-same-length Inv-loop μ-loop
+same-length c = same-room (c .before .loop .inv .writes)
+
+returns : tie.Need-returns Inv-loop μ-loop
+returns c = entries-last _ _ _ (c .before .before .before .before .before .pre .1 .1) _ _ _ _ _ (c .before .loop .inv) (omega arith)
+
+pub put-entries-spec : {M : Type 1} → statement M
+put-entries-spec =
+    tie.close
+    (tie.spec
+    Inv-loop
+    μ-loop
+    loop-holds
+    mul-p
+    shared-slice-read-p
+    add-put-entry
+    mul-put-entry
+    add-put-entry-2
+    add-put-entry-3
+    shared-slice-read-put-entry
+    put-entry-requires
+    add-i
+    loop-less
+    loop-again
+    same-length
+    returns)

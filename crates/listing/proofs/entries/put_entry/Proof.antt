@@ -1,0 +1,47 @@
+-- `list_entries::put_entry` meets its contract: the word for either state.
+-- Assumes nothing.
+use mathlib.Core.Path.{refl}
+use native.Mathlib.Omega.{arith}
+use Rattle.octets.specs.text.Text.{ascii}
+use Rattle.listing.specs.line.Lines.{state-live, state-retired}
+use Rattle.listing.proofs.entries.put_entry.Statement.{statement}
+use Rattle.listing.proofs.entries.put_entry.Tie as tie
+
+slice-aggregate-put-segment : tie.Need-slice-aggregate-put-segment
+slice-aggregate-put-segment c = refl
+
+put-segment-requires : tie.Need-put-segment-requires
+put-segment-requires c κs = omega arith
+
+same-length : tie.Need-same-length
+same-length c = c .before .before .put-segment .kept .0
+
+returns : tie.Need-returns
+unfolding ascii
+returns c = (state-live _ _ _ (c .before .before .before .before .before .if1 .taken) (c .before .before .put-segment .ensures .0), c .before .before .put-segment .ensures .1)
+
+slice-aggregate-put-segment-2 : tie.Need-slice-aggregate-put-segment-2
+slice-aggregate-put-segment-2 c = refl
+
+put-segment-requires-2 : tie.Need-put-segment-requires-2
+put-segment-requires-2 c κs = omega arith
+
+same-length-2 : tie.Need-same-length-2
+same-length-2 c = c .before .before .put-segment2 .kept .0
+
+returns-2 : tie.Need-returns-2
+unfolding ascii
+returns-2 c = (state-retired _ _ _ (c .before .before .before .before .before .if1 .left) (c .before .before .put-segment2 .ensures .0), c .before .before .put-segment2 .ensures .1)
+
+pub put-entry-spec : {M : Type 1} → statement M
+put-entry-spec =
+    tie.close
+    (tie.spec
+    slice-aggregate-put-segment
+    put-segment-requires
+    same-length
+    returns
+    slice-aggregate-put-segment-2
+    put-segment-requires-2
+    same-length-2
+    returns-2)

@@ -1,0 +1,47 @@
+-- `listing::put_check` meets its contract: the word for either case.
+-- Assumes nothing.
+use mathlib.Core.Path.{refl}
+use native.Mathlib.Omega.{arith}
+use Rattle.octets.specs.text.Text.{ascii}
+use Rattle.listing.specs.line.Lines.{check-ok, check-bad}
+use Rattle.listing.proofs.line.put_check.Statement.{statement}
+use Rattle.listing.proofs.line.put_check.Tie as tie
+
+slice-aggregate-put-bytes : tie.Need-slice-aggregate-put-bytes
+slice-aggregate-put-bytes c = refl
+
+put-bytes-requires : tie.Need-put-bytes-requires
+put-bytes-requires c κs = omega arith
+
+same-length : tie.Need-same-length
+same-length c = c .before .before .put-bytes .kept .0
+
+returns : tie.Need-returns
+unfolding ascii
+returns c = (check-ok _ (c .before .before .before .before .before .if1 .taken) (c .before .before .put-bytes .ensures), omega (arith, c .before .before .put-bytes .ensures .ends))
+
+slice-aggregate-put-bytes-2 : tie.Need-slice-aggregate-put-bytes-2
+slice-aggregate-put-bytes-2 c = refl
+
+put-bytes-requires-2 : tie.Need-put-bytes-requires-2
+put-bytes-requires-2 c κs = omega arith
+
+same-length-2 : tie.Need-same-length-2
+same-length-2 c = c .before .before .put-bytes2 .kept .0
+
+returns-2 : tie.Need-returns-2
+unfolding ascii
+returns-2 c = (check-bad _ (c .before .before .before .before .before .if1 .left) (c .before .before .put-bytes2 .ensures), omega (arith, c .before .before .put-bytes2 .ensures .ends))
+
+pub put-check-spec : {M : Type 1} → statement M
+put-check-spec =
+    tie.close
+    (tie.spec
+    slice-aggregate-put-bytes
+    put-bytes-requires
+    same-length
+    returns
+    slice-aggregate-put-bytes-2
+    put-bytes-requires-2
+    same-length-2
+    returns-2)

@@ -1,0 +1,90 @@
+-- `list_text::put_list` meets its contract: the heading, the entries, the manifest and the last line, one right behind the other.
+-- Assumes nothing.
+use mathlib.Core.Path.{refl, _∙_}
+use native.Mathlib.Omega.{arith}
+use Rattle.octets.specs.text.Text.{ascii}
+use Rattle.listing.specs.text.Whole.{m, list-room, list-written}
+use Rattle.listing.proofs.text.put_list.Statement.{statement}
+use Rattle.listing.proofs.text.put_list.Tie as tie
+
+slice-aggregate-put-bytes : tie.Need-slice-aggregate-put-bytes
+slice-aggregate-put-bytes c = refl
+
+put-bytes-requires : tie.Need-put-bytes-requires
+put-bytes-requires c κs = omega arith
+
+put-entries-requires : tie.Need-put-entries-requires
+put-entries-requires c κs =
+    let p = c .before .before .before .before .before .before .before .before .before .pre in
+    let r = list-room _ _ _ _ _ _ (λ k. omega (arith, c .before .before .before .before .before .before .before .shared-slice-known .given k)) (p .1 .0) (p .0 .0) (p .1 .1) in
+    let w = c .before .before .before .put-bytes in
+    ((p .0 .0, omega (arith, w .ensures .ends, w .kept .0, r .1, p .0 .1)), (p .1 .0, m _ _ _ _ _ _ (λ k. omega (arith, c .before .before .before .before .before .before .before .shared-slice-known .given k)) (p .1 .0) (p .0 .0) (p .1 .1)))
+
+slice-aggregate-put-segment : tie.Need-slice-aggregate-put-segment
+slice-aggregate-put-segment c = refl
+
+put-segment-requires : tie.Need-put-segment-requires
+put-segment-requires c κs =
+    let p = c .before .before .before .before .before .before .before .before .before .before .before .before .before .before .pre in
+    let r = list-room _ _ _ _ _ _ (λ k. omega (arith, c .before .before .before .before .before .before .before .before .before .before .before .before .shared-slice-known .given k)) (p .1 .0) (p .0 .0) (p .1 .1) in
+    let w = c .before .before .before .before .before .before .before .before .put-bytes in
+    let x = c .before .before .before .before .put-entries in
+    (r .0, (omega (arith, w .ensures .ends, w .kept .0, r .1, x .ensures .1, x .kept .0, p .0 .1), omega arith))
+
+slice-aggregate-put-number : tie.Need-slice-aggregate-put-number
+slice-aggregate-put-number c = refl
+
+slice-aggregate-put-number-2 : tie.Need-slice-aggregate-put-number-2
+slice-aggregate-put-number-2 c = refl
+
+put-number-requires : tie.Need-put-number-requires
+put-number-requires c κs =
+    let p = c .before .before .before .before .before .before .before .before .before .before .before .before .before .before .before .before .before .before .before .before .pre in
+    let r = list-room _ _ _ _ _ _ (λ k. omega (arith, c .before .before .before .before .before .before .before .before .before .before .before .before .before .before .before .before .before .before .shared-slice-known .given k)) (p .1 .0) (p .0 .0) (p .1 .1) in
+    let w = c .before .before .before .before .before .before .before .before .before .before .before .before .before .before .put-bytes in
+    let x = c .before .before .before .before .before .before .before .before .before .before .put-entries in
+    let y = c .before .before .before .before .before .put-segment in
+    omega (arith, w .ensures .ends, w .kept .0, r .1, x .ensures .1, x .kept .0, y .ensures .1, y .kept .0, p .0 .1)
+
+slice-aggregate-put-number-3 : tie.Need-slice-aggregate-put-number-3
+slice-aggregate-put-number-3 c = refl
+
+slice-aggregate-put-number-4 : tie.Need-slice-aggregate-put-number-4
+slice-aggregate-put-number-4 c = refl
+
+put-number-requires-2 : tie.Need-put-number-requires-2
+put-number-requires-2 c κs =
+    let p = c .before .before .before .before .before .before .before .before .before .before .before .before .before .before .before .before .before .before .before .before .before .before .before .before .before .before .pre in
+    let r = list-room _ _ _ _ _ _ (λ k. omega (arith, c .before .before .before .before .before .before .before .before .before .before .before .before .before .before .before .before .before .before .before .before .before .before .before .before .shared-slice-known .given k)) (p .1 .0) (p .0 .0) (p .1 .1) in
+    let w = c .before .before .before .before .before .before .before .before .before .before .before .before .before .before .before .before .before .before .before .before .put-bytes in
+    let x = c .before .before .before .before .before .before .before .before .before .before .before .before .before .before .before .before .put-entries in
+    let y = c .before .before .before .before .before .before .before .before .before .before .before .put-segment in
+    let z = c .before .before .before .before .before .put-number in
+    omega (arith, w .ensures .ends, w .kept .0, r .1, x .ensures .1, x .kept .0, y .ensures .1, y .kept .0, z .ensures .1, z .kept .0, p .0 .1)
+
+same-length : tie.Need-same-length
+same-length c = c .before .before .put-number2 .kept .0 ∙ c .before .before .before .before .before .before .before .before .put-number .kept .0 ∙ c .before .before .before .before .before .before .before .before .before .before .before .before .before .before .put-segment .kept .0 ∙ c .before .before .before .before .before .before .before .before .before .before .before .before .before .before .before .before .before .before .before .put-entries .kept .0 ∙ c .before .before .before .before .before .before .before .before .before .before .before .before .before .before .before .before .before .before .before .before .before .before .before .put-bytes .kept .0
+
+returns : tie.Need-returns
+unfolding ascii
+returns c =
+    let p = c .before .before .before .before .before .before .before .before .before .before .before .before .before .before .before .before .before .before .before .before .before .before .before .before .before .before .before .before .before .pre in
+    list-written _ _ _ _ _ _ (λ k. omega (arith, c .before .before .before .before .before .before .before .before .before .before .before .before .before .before .before .before .before .before .before .before .before .before .before .before .before .before .before .shared-slice-known .given k)) (p .1 .0) (p .0 .0) (p .1 .1) (c .before .before .before .before .before .before .before .before .before .before .before .before .before .before .before .before .before .before .before .before .before .before .before .put-bytes .ensures) (c .before .before .before .before .before .before .before .before .before .before .before .before .before .before .before .before .before .before .before .put-entries .ensures .0) (c .before .before .before .before .before .before .before .before .before .before .before .before .before .before .put-segment .ensures .0) (c .before .before .before .before .before .before .before .before .put-number .ensures .0) (c .before .before .put-number2 .ensures .0)
+
+pub put-list-spec : {M : Type 1} → statement M
+put-list-spec =
+    tie.close
+    (tie.spec
+    slice-aggregate-put-bytes
+    put-bytes-requires
+    put-entries-requires
+    slice-aggregate-put-segment
+    put-segment-requires
+    slice-aggregate-put-number
+    slice-aggregate-put-number-2
+    put-number-requires
+    slice-aggregate-put-number-3
+    slice-aggregate-put-number-4
+    put-number-requires-2
+    same-length
+    returns)

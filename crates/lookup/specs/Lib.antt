@@ -1,0 +1,3 @@
+pub mod in_segment
+pub mod place
+pub mod vector

@@ -1,0 +1,208 @@
+-- Where the vector with an id stands, by cases; the look into one segment, by the file's bytes alone; and where the search through the directory stands.
+-- Assumes nothing.
+use Prim.Native.Nat.{ℕ, suc, _+_, _-_, _*_, _≤_, _<_}
+use mathlib.Core.Path.{_≡_, refl, sym, ap, subst, _∙_}
+use mathlib.Core.Bool.{Bool, true, false, cond}
+use mathlib.Core.Option.{Option, none, some, Option·some-injective}
+use mathlib.Core.List.{List}
+use native.Mathlib.Omega.{arith}
+use lib.Dec.{eqb}
+use lib.ListN.{length, take, drop, getD}
+use borrow.Author.Tests.{ne-eqb}
+use Rattle.octets.specs.le.Le.{leAt}
+use Rattle.answers.specs.limits.Limits.{maxFile}
+use Rattle.segment.specs.chain.Last.{Found}
+use Rattle.segment.specs.Header.{Link, whole}
+use Rattle.segment.specs.Step.{wholeAt}
+use Rattle.segment.specs.index.Offsets.{linkNo}
+use Rattle.segment.specs.index.Numbered.{Numbered}
+use Rattle.manifest.specs.Opening.{opened, states, at-long, at-within}
+use Rattle.opening.specs.Indexed.{ManifestAt, EntryAt}
+use Rattle.vecseg.specs.Payload.{vecKind, checkOf}
+use Rattle.vecseg.specs.Find.{Place, findIn}
+use Rattle.vec_read.specs.find.Found.{foundOf}
+use Rattle.vec_read.specs.declared.find.Found.the-variants.{At, Missing as NotFound}
+use Rattle.reading.specs.Live.{liveOf, vectorsOf, searchOrder, orderOf, order-all, order-retired, order-other, order-here}
+use Rattle.reading.specs.Answers.{Hit, Held, Missing, Bad, hitOf, lookIn, orElse, searchIn, hitFound, hitIn}
+use Rattle.lookup.specs.declared.in_segment.Located.{Located}
+use Rattle.lookup.specs.declared.in_segment.Located.the-variants.{In, Nowhere, Refused}
+
+unfoldable pub locatedOf : Hit → Located
+locatedOf (Held l p) = In (l .offset + 64) (length (l .payload)) (p .line .offset) (p .line .count) (p .line .dim) (p .line .dtype) (p .index)
+locatedOf Missing = Nowhere
+locatedOf (Bad n) = Refused n
+
+-- ---- one segment
+
+-- a place in the payload of so many bytes at `body`
+unfoldable pub placedIn : ℕ → ℕ → Option Place → Located
+placedIn body len none = Nowhere
+placedIn body len (some p) = In body len (p .line .offset) (p .line .count) (p .line .dim) (p .line .dtype) (p .index)
+
+-- the segment whose header begins at p, with a payload of so many bytes
+unfoldable pub lookAt : List ℕ → ℕ → ℕ → ℕ → Located
+lookAt f p len id =
+    let s = take len (drop (p + 64) f) in
+    cond (wholeAt f p len) (cond (eqb (checkOf s) 0) (placedIn (p + 64) len (findIn s id)) (Refused (checkOf s))) (Refused 4)
+
+-- the ways out, where n is the length that the code has read
+module _ (f : List ℕ) (p len id n : ℕ) (n-is : n ≡ len) where
+  pub look-torn : wholeAt f p n ≡ false → Refused 4 ≡ lookAt f p len id
+  unfolding lookAt
+  look-torn h = rw (← n-is, h)
+
+  module _ (h : wholeAt f p n ≡ true) where
+    -- the payload, as the code takes it out of the file
+    abbrev s : List ℕ
+    s = take (p + 64 + n - (p + 64)) (drop (p + 64) f)
+
+    same : s ≡ take n (drop (p + 64) f)
+    same = let e : p + 64 + n - (p + 64) ≡ n = omega arith in ap (λ (m : ℕ). take m (drop (p + 64) f)) e
+
+    pub look-bad : (b : ℕ) → b ≡ checkOf s → (b ≡ 0 → ⊥) → Refused b ≡ lookAt f p len id
+    unfolding lookAt
+    look-bad b e nz =
+        let q : checkOf (take n (drop (p + 64) f)) ≡ b = ap checkOf (sym same) ∙ sym e in
+        rw (← n-is, h, q, ne-eqb b 0 nz)
+
+    module _ (ok : checkOf s ≡ 0) where
+      to-place : lookAt f p len id ≡ placedIn (p + 64) n (findIn s id)
+      unfolding lookAt
+      to-place =
+          let q : checkOf (take n (drop (p + 64) f)) ≡ 0 = ap checkOf (sym same) ∙ ok in
+          rw (← n-is, h, q) (ap (λ (x : List ℕ). placedIn (p + 64) n (findIn x id)) (sym same))
+
+      pub look-missing : foundOf (findIn s id) ≡ NotFound → Nowhere ≡ lookAt f p len id
+      unfolding foundOf placedIn
+      look-missing e = sym (to-place ∙ go (findIn s id) e)
+        where
+          go : (o : Option Place) → foundOf o ≡ NotFound → placedIn (p + 64) n o ≡ Nowhere
+          go none q = refl
+          go (some w) q = absurd (let z : _≡_ {A = ℕ} 0 1 = cc in omega arith)
+
+      pub look-found : (offset count dim dtype index : ℕ) → foundOf (findIn s id) ≡ At offset count dim dtype index
+          → In (p + 64) n offset count dim dtype index ≡ lookAt f p len id
+      unfolding foundOf placedIn
+      look-found offset count dim dtype index e = sym (to-place ∙ go (findIn s id) e)
+        where
+          go : (o : Option Place) → foundOf o ≡ At offset count dim dtype index → placedIn (p + 64) n o ≡ In (p + 64) n offset count dim dtype index
+          go none q = absurd (let z : _≡_ {A = ℕ} 0 1 = cc in omega arith)
+          go (some w) q = cc
+
+-- of a link of the file
+same-hit : (l : Link) (w t : Bool) (c : ℕ) (o : Option Place)
+    → cond w (cond t (placedIn (l .offset + 64) (length (l .payload)) o) (Refused c)) (Refused 4) ≡ locatedOf (cond w (cond t (hitOf l o) (Bad c)) (Bad 4))
+unfolding placedIn locatedOf hitOf
+same-hit l false t c o = refl
+same-hit l true false c o = refl
+same-hit l true true c none = refl
+same-hit l true true c (some p) = refl
+
+look-link : (f : List ℕ) (p i id : ℕ) (l : Link) → Numbered f p i l → lookAt f p (leAt 8 f (p + 0x10)) id ≡ locatedOf (lookIn id l)
+unfolding lookAt lookIn
+look-link f p i id l m =
+    ap (λ (n : ℕ). lookAt f p n id) (sym (m .length-is))
+    ∙ ap (λ (x : List ℕ). cond (wholeAt f p (length (l .payload))) (cond (eqb (checkOf x) 0) (placedIn (p + 64) (length (l .payload)) (findIn x id)) (Refused (checkOf x))) (Refused 4)) (sym (m .payload-is))
+    ∙ ap (λ (w : Bool). cond w (cond (eqb (checkOf (l .payload)) 0) (placedIn (p + 64) (length (l .payload)) (findIn (l .payload) id)) (Refused (checkOf (l .payload)))) (Refused 4)) (sym (m .whole-is))
+    ∙ ap (λ (q : ℕ). cond (whole l) (cond (eqb (checkOf (l .payload)) 0) (placedIn (q + 64) (length (l .payload)) (findIn (l .payload) id)) (Refused (checkOf (l .payload)))) (Refused 4)) (sym (m .offset-is))
+    ∙ same-hit l (whole l) (eqb (checkOf (l .payload)) 0) (checkOf (l .payload)) (findIn (l .payload) id)
+
+-- ---- where the search stands: entries from i on are passed
+
+pub record SearchAt (f : List ℕ) (id count i : ℕ) : Type 0 where
+  pub few : i ≤ count
+  pub same : (r : Found Link) → opened f ≡ some r → searchIn id (orderOf (take i (r .before)) (states r)) ≡ searchIn id (searchOrder r)
+
+module _ (f : List ℕ) (id offset count : ℕ) (m : ManifestAt f offset count) where
+  abbrev r : Found Link
+  r = m .found
+
+  -- the search is that of the directory
+  hit-is : hitIn f id ≡ searchIn id (searchOrder r)
+  unfolding hitIn hitFound
+  hit-is = at-within (Bad 1) (hitFound id) f (m .within) ∙ ap (hitFound id) (m .opens)
+
+  same-found : (r′ : Found Link) → opened f ≡ some r′ → r ≡ r′
+  same-found r′ e = Option·some-injective _ _ (sym (m .opens) ∙ e)
+
+  pub search-first : SearchAt f id count count
+  search-first =
+      record {
+        few = omega arith;
+        same = λ r′ e.
+            let c : count ≡ length (r′ .before) = sym (m .count-is) ∙ ap (λ (x : Found Link). length (x .before)) (same-found r′ e) in
+            ap (λ (n : ℕ). searchIn id (orderOf (take n (r′ .before)) (states r′))) c ∙ ap (searchIn id) (order-all r′);
+      }
+
+  pub search-last : (i : ℕ) → SearchAt f id count i → i ≡ 0 → Nowhere ≡ locatedOf (hitIn f id)
+  unfolding orderOf vectorsOf liveOf searchIn locatedOf
+  search-last i st z =
+      let e : searchIn id (orderOf (take i (r .before)) (states r)) ≡ Missing = ap (λ (n : ℕ). searchIn id (orderOf (take n (r .before)) (states r))) z in
+      ap locatedOf (sym e ∙ st .same r (m .opens) ∙ sym hit-is)
+
+  module _ (i j : ℕ) (offsets : List ℕ) (st : SearchAt f id count i) (next : i ≡ suc j) (a : EntryAt f offsets r offset j) where
+    inside : j < length (r .before)
+    inside = let few = st .few in omega (arith, m .count-is)
+
+    on : orderOf (take (suc j) (r .before)) (states r) ≡ orderOf (take j (r .before)) (states r) → SearchAt f id count j
+    on e =
+        record {
+          few = let few = st .few in omega arith;
+          same = λ r′ q.
+              subst (λ (x : Found Link). searchIn id (orderOf (take j (x .before)) (states x)) ≡ searchIn id (searchOrder x)) (same-found r′ q)
+              (ap (searchIn id) (sym e) ∙ ap (λ (n : ℕ). searchIn id (orderOf (take n (r .before)) (states r))) (sym next) ∙ st .same r (m .opens));
+        }
+
+    pub search-retired : (getD f (offset + 72 + 48 * j + 41) 0 ≡ 0 → ⊥) → SearchAt f id count j
+    search-retired n = on (order-retired (r .before) (states r) j inside (λ z. n (sym (a .state-is) ∙ z)))
+
+    pub search-other : (getD f (getD offsets j 0 + 0x05) 0 ≡ vecKind → ⊥) → SearchAt f id count j
+    search-other n =
+        on (order-other (r .before) (states r) j inside (λ z. n (sym (a .numbered .kind-is) ∙ ap (λ (l : Link). l .kind) (sym (a .link-is)) ∙ z)))
+
+    module _ (live : getD f (offset + 72 + 48 * j + 41) 0 ≡ 0) (vec : getD f (getD offsets j 0 + 0x05) 0 ≡ vecKind) where
+      here : searchIn id (orderOf (take (suc j) (r .before)) (states r)) ≡ orElse (lookIn id (linkNo f j)) (searchIn id (orderOf (take j (r .before)) (states r)))
+      unfolding searchIn
+      here =
+          ap (searchIn id) (order-here (r .before) (states r) j inside (a .state-is ∙ live) (ap (λ (l : Link). l .kind) (a .link-is) ∙ a .numbered .kind-is ∙ vec))
+          ∙ ap (λ (l : Link). orElse (lookIn id l) (searchIn id (orderOf (take j (r .before)) (states r)))) (a .link-is)
+
+      whole-search : orElse (lookIn id (linkNo f j)) (searchIn id (orderOf (take j (r .before)) (states r))) ≡ searchIn id (searchOrder r)
+      whole-search = sym here ∙ ap (λ (n : ℕ). searchIn id (orderOf (take n (r .before)) (states r))) (sym next) ∙ st .same r (m .opens)
+
+      looked : lookAt f (getD offsets j 0) (leAt 8 f (getD offsets j 0 + 0x10)) id ≡ locatedOf (lookIn id (linkNo f j))
+      looked = look-link f (getD offsets j 0) j id (linkNo f j) (a .numbered)
+
+      pub search-on : lookAt f (getD offsets j 0) (leAt 8 f (getD offsets j 0 + 0x10)) id ≡ Nowhere → SearchAt f id count j
+      unfolding orElse locatedOf
+      search-on e = go (lookIn id (linkNo f j)) refl (sym looked ∙ e)
+        where
+          go : (h : Hit) → lookIn id (linkNo f j) ≡ h → locatedOf h ≡ Nowhere → SearchAt f id count j
+          go (Held l p) q z = absurd (let w : _≡_ {A = ℕ} 0 1 = cc in omega arith)
+          go (Bad n) q z = absurd (let w : _≡_ {A = ℕ} 0 1 = cc in omega arith)
+          go Missing q z =
+              record {
+                few = let few = st .few in omega arith;
+                same = λ r′ e.
+                    subst (λ (x : Found Link). searchIn id (orderOf (take j (x .before)) (states x)) ≡ searchIn id (searchOrder x)) (same-found r′ e)
+                    (sym (ap (λ (h : Hit). orElse h (searchIn id (orderOf (take j (r .before)) (states r)))) q) ∙ whole-search);
+              }
+
+      pub search-stop : (o : Located) → lookAt f (getD offsets j 0) (leAt 8 f (getD offsets j 0 + 0x10)) id ≡ o → (o ≡ Nowhere → ⊥) → o ≡ locatedOf (hitIn f id)
+      unfolding orElse locatedOf
+      search-stop o e n = sym e ∙ looked ∙ ap locatedOf (go (lookIn id (linkNo f j)) refl ∙ whole-search ∙ sym hit-is)
+        where
+          go : (h : Hit) → lookIn id (linkNo f j) ≡ h → h ≡ orElse h (searchIn id (orderOf (take j (r .before)) (states r)))
+          go (Held l p) q = refl
+          go (Bad k) q = refl
+          go Missing q = absurd (n (sym e ∙ looked ∙ ap locatedOf q))
+
+-- ---- what opening refuses
+
+pub located-long : (f : List ℕ) (id n : ℕ) → n ≡ 1 → maxFile < length f → Refused n ≡ locatedOf (hitIn f id)
+unfolding hitIn locatedOf
+located-long f id n e h = ap Refused e ∙ ap locatedOf (sym (at-long (Bad 1) (hitFound id) f h))
+
+pub located-none : (f : List ℕ) (id : ℕ) → length f ≤ maxFile → opened f ≡ none → Refused 2 ≡ locatedOf (hitIn f id)
+unfolding hitIn hitFound locatedOf
+located-none f id h e = ap locatedOf (sym (at-within (Bad 1) (hitFound id) f h ∙ ap (hitFound id) e))

@@ -1,0 +1,99 @@
+-- Where the search for a segment's id stands, and what it has found.
+-- Assumes nothing.
+use Prim.Native.Nat.{ℕ, suc, _+_, _*_, _≤_, _<_}
+use mathlib.Core.Path.{_≡_, refl, sym, ap, subst, _∙_}
+use mathlib.Core.Bool.{true, false, cond}
+use mathlib.Core.Option.{none, some, Option·some-injective}
+use mathlib.Core.List.{List}
+use native.Mathlib.Omega.{arith}
+use native.Mathlib.Numerals.{add-one}
+use lib.ListN.{length, drop, getD}
+use Rattle.octets.specs.le.Le.{leAt}
+use Rattle.answers.specs.limits.Limits.{maxFile}
+use Rattle.segment.specs.chain.Last.{Found}
+use Rattle.segment.specs.Header.{Link, whole}
+use Rattle.segment.specs.Step.{wholeAt}
+use Rattle.segment.specs.index.Offsets.{noLink, linkNo}
+use Rattle.manifest.specs.Opening.{opened, states, at-long, at-within}
+use Rattle.opening.specs.Indexed.{ManifestAt, EntryAt}
+use Rattle.reading.specs.Live.{liveOf, live, withId, with-retired, with-other, with-here, with-none}
+use Rattle.reading.specs.Answers.{Handed, NotHanded, partOf, partFound, partIn}
+use Rattle.lookup.specs.declared.place.Place.the-variants.{At, Refused}
+use Rattle.lookup.specs.place.Place.{placeOf}
+
+-- the first i entries are passed
+pub record FindAt (f : List ℕ) (id count i : ℕ) : Type 0 where
+  pub few : i ≤ count
+  pub same : (r : Found Link) → opened f ≡ some r → withId id (liveOf (drop i (r .before)) (drop i (states r))) ≡ withId id (live r)
+
+pub find-first : (f : List ℕ) (id count : ℕ) → FindAt f id count 0
+unfolding live
+find-first f id count = record { few = omega arith; same = λ r e. refl }
+
+module _ (f : List ℕ) (id offset count : ℕ) (m : ManifestAt f offset count) where
+  abbrev r : Found Link
+  r = m .found
+
+  part-is : partIn f id ≡ partOf (withId id (live r))
+  unfolding partIn partFound
+  part-is = at-within (NotHanded 1) (partFound id) f (m .within) ∙ ap (partFound id) (m .opens)
+
+  pub find-last : (i : ℕ) → FindAt f id count i → count ≤ i → Refused 3 ≡ placeOf (partIn f id)
+  unfolding placeOf partOf
+  find-last i st h =
+      let e : withId id (live r) ≡ none = sym (st .same r (m .opens)) ∙ with-none id (r .before) (states r) i (omega (arith, m .count-is)) in
+      ap placeOf (sym (part-is ∙ ap partOf e))
+
+  module _ (i : ℕ) (offsets : List ℕ) (st : FindAt f id count i) (h : i < count) (a : EntryAt f offsets r offset i) where
+    inside : i < length (r .before)
+    inside = omega (arith, m .count-is)
+
+    on : withId id (liveOf (drop i (r .before)) (drop i (states r))) ≡ withId id (liveOf (drop (suc i) (r .before)) (drop (suc i) (states r))) → FindAt f id count (i + 1)
+    on e =
+        record {
+          few = omega arith;
+          same = λ r′ q.
+              subst (λ (x : Found Link). withId id (liveOf (drop (i + 1) (x .before)) (drop (i + 1) (states x))) ≡ withId id (live x)) (Option·some-injective _ _ (sym (m .opens) ∙ q))
+              (ap (λ (n : ℕ). withId id (liveOf (drop n (r .before)) (drop n (states r)))) (add-one i) ∙ sym e ∙ st .same r (m .opens));
+        }
+
+    id-is : getD (r .before) i noLink .id ≡ leAt 8 f (getD offsets i 0 + 0x08)
+    id-is = ap (λ (l : Link). l .id) (a .link-is) ∙ a .numbered .id-is
+
+    pub find-other : (x : ℕ) → x ≡ leAt 8 f (getD offsets i 0 + 0x08) → (x ≡ id → ⊥) → FindAt f id count (i + 1)
+    find-other x e n = on (with-other (r .before) (states r) i inside id (λ q. n (e ∙ sym id-is ∙ q)))
+
+    pub find-retired : (getD f (offset + 72 + 48 * i + 41) 0 ≡ 0 → ⊥) → FindAt f id count (i + 1)
+    find-retired n = on (with-retired (r .before) (states r) i inside id (λ z. n (sym (a .state-is) ∙ z)))
+
+    module _ (x : ℕ) (e : x ≡ leAt 8 f (getD offsets i 0 + 0x08)) (q : x ≡ id) (z : getD f (offset + 72 + 48 * i + 41) 0 ≡ 0) where
+      here : partIn f id ≡ partOf (some (linkNo f i))
+      here =
+          part-is
+          ∙ ap partOf (sym (st .same r (m .opens)) ∙ with-here (r .before) (states r) i inside id (a .state-is ∙ z) (id-is ∙ sym e ∙ q) ∙ ap some (a .link-is))
+
+      -- the length that the code has read
+      module _ (n : ℕ) (n-is : n ≡ leAt 8 f (getD offsets i 0 + 0x10)) where
+        whole-is : whole (linkNo f i) ≡ wholeAt f (getD offsets i 0) n
+        whole-is = a .numbered .whole-is ∙ ap (wholeAt f (getD offsets i 0)) (a .numbered .length-is ∙ sym n-is)
+
+        pub find-torn : wholeAt f (getD offsets i 0) n ≡ false → Refused 4 ≡ placeOf (partIn f id)
+        unfolding placeOf partOf
+        find-torn t = ap placeOf (sym (here ∙ ap (λ b. cond b (Handed (linkNo f i .offset + 64) (linkNo f i .payload)) (NotHanded 4)) (whole-is ∙ t)))
+
+        pub find-whole : wholeAt f (getD offsets i 0) n ≡ true → At (getD offsets i 0 + 64) n ≡ placeOf (partIn f id)
+        unfolding placeOf partOf
+        find-whole t =
+            let o : linkNo f i .offset ≡ getD offsets i 0 = a .numbered .offset-is in
+            let k : length (linkNo f i .payload) ≡ n = a .numbered .length-is ∙ sym n-is in
+            sym (ap placeOf (here ∙ ap (λ b. cond b (Handed (linkNo f i .offset + 64) (linkNo f i .payload)) (NotHanded 4)) (whole-is ∙ t)) ∙ ap (λ (y : ℕ). At (y + 64) (length (linkNo f i .payload))) o ∙ ap (At (getD offsets i 0 + 64)) k)
+
+-- ---- what opening refuses
+
+pub place-long : (f : List ℕ) (id n : ℕ) → n ≡ 1 → maxFile < length f → Refused n ≡ placeOf (partIn f id)
+unfolding partIn placeOf
+place-long f id n e h = ap Refused e ∙ ap placeOf (sym (at-long (NotHanded 1) (partFound id) f h))
+
+pub place-none : (f : List ℕ) (id : ℕ) → length f ≤ maxFile → opened f ≡ none → Refused 2 ≡ placeOf (partIn f id)
+unfolding partIn partFound placeOf
+place-none f id h e = ap placeOf (sym (at-within (NotHanded 1) (partFound id) f h ∙ ap (partFound id) e))

@@ -1,0 +1,85 @@
+// The search for a vector id in a file: through the live VEC segments from the last in the directory to the first, each checked whole before it is
+// looked into. The first bad one refuses, the first that holds the id answers.
+ghost use mathlib.Core.Path.{_≡_};
+ghost use Prim.Native.Nat.{_+_, _≤_};
+ghost use lib.ListN.{length};
+ghost use Rattle.segment.specs.index.Offsets.{most};
+ghost use Rattle.opening.specs.Indexed.{ManifestAt, Indexed};
+ghost use Rattle.reading.specs.Answers.{hitIn};
+ghost use Rattle.lookup.specs.in_segment.Located.{locatedOf};
+use opening::Opened;
+use crate::in_segment::Located;
+
+// The search in the directory of the manifest at an offset, down from its last entry.
+fn search(
+    file: &[u8],
+    offsets: &[u64],
+    manifest: usize,
+    count: usize,
+    id: u64,
+    own: &mut [u64],
+) -> Located
+    requires { ⌜ (most ≤ length (now offsets)) × (4096 ≤ length (now own)) ⌝ }
+    requires { ⌜ Indexed (now file) (now offsets) ⌝ }
+    requires { ⌜ ManifestAt (now file) manifest count ⌝ }
+    ensures { λ r. ⌜ r ≡ locatedOf (hitIn (now (file .entry)) id) ⌝ }
+{
+    let mut i = count;
+    while i > 0 {
+        i -= 1;
+        let p = offsets[i] as usize;
+        if file[p + 0x05] != 0x01 {
+            continue;
+        }
+        if file[manifest + 72 + 48 * i + 41] != 0 {
+            continue;
+        }
+        let segment = crate::in_segment::look(file, p, id, own);
+        match segment {
+            Located::Nowhere => {}
+            Located::Refused(number) => return Located::Refused(number),
+            Located::In {
+                body,
+                length,
+                offset,
+                count: vectors,
+                dim,
+                dtype,
+                index,
+            } => {
+                return Located::In {
+                    body,
+                    length,
+                    offset,
+                    count: vectors,
+                    dim,
+                    dtype,
+                    index,
+                };
+            }
+        }
+    }
+    Located::Nowhere
+}
+
+// Where a file's vector with an id stands; 1 and 2 as opening has them.
+pub fn locate(file: &[u8], id: u64) -> Located
+    ensures { λ r. ⌜ r ≡ locatedOf (hitIn (now (file .entry)) id) ⌝ }
+{
+    let mut offsets = [0u64; 1025];
+    let found = opening::open_with(file, &mut offsets);
+    match found {
+        Opened::Refused(number) => Located::Refused(number),
+        Opened::NoManifest { tried: _ } => Located::Refused(2),
+        Opened::At {
+            offset,
+            end: _,
+            id: _,
+            count,
+            tried: _,
+        } => {
+            let mut own = [0u64; 4096];
+            search(file, &offsets, offset, count, id, &mut own)
+        }
+    }
+}

@@ -1,0 +1,60 @@
+// A vector id looked for in one segment, which is checked whole first.
+ghost use mathlib.Core.Path.{_≡_};
+ghost use Prim.Native.Nat.{_+_, _≤_};
+ghost use lib.ListN.{length};
+ghost use Rattle.octets.specs.le.Le.{leAt};
+ghost use Rattle.lookup.specs.in_segment.Located.{lookAt};
+use vec_read::find::Found;
+
+// Where a vector stands: where its segment's payload begins in the file and how long it is; in that payload its block's offset, count, dim and dtype,
+// and which vector of the block it is. Or nowhere; or the number of a refusal.
+pub enum Located {
+    In {
+        body: usize,
+        length: usize,
+        offset: usize,
+        count: usize,
+        dim: usize,
+        dtype: u8,
+        index: usize,
+    },
+    Nowhere,
+    Refused(u32),
+}
+
+// One segment, whose header begins at p, with a list of our own for the ids of a block: 4 where the hash differs, then the payload's check.
+pub fn look(file: &[u8], p: usize, id: u64, own: &mut [u64]) -> Located
+    requires { ⌜ (p + (64 + leAt 8 (now file) (p + 0x10)) ≤ length (now file)) × (4096 ≤ length (now own)) ⌝ }
+    ensures { λ r. ⌜ r ≡ lookAt (now (file .entry)) p (leAt 8 (now (file .entry)) (p + 0x10)) id ⌝ }
+{
+    let length = octets::le::u64_at(file, p + 0x10) as usize;
+    if !segment::is_whole(file, p, length) {
+        return Located::Refused(4);
+    }
+    let body = p + 64;
+    let end = body + length;
+    let payload = &file[body..end];
+    let bad = vec_read::check::check(payload);
+    if bad != 0 {
+        return Located::Refused(bad);
+    }
+    let found = vec_read::find::find_with(payload, id, own);
+    match found {
+        Found::Missing => Located::Nowhere,
+        Found::At {
+            offset,
+            count,
+            dim,
+            dtype,
+            index,
+        } => Located::In {
+            body,
+            length,
+            offset,
+            count,
+            dim,
+            dtype,
+            index,
+        },
+    }
+}

@@ -1,0 +1,40 @@
+-- `text::put_number` meets its contract: three pieces, one right behind the other.
+-- Assumes nothing.
+use native.Mathlib.Omega.{arith}
+use Rattle.octets.specs.text.Text.{decimal-u64}
+use Rattle.octets.specs.text.Written.{then}
+use borrow.Author.Needs.{needs}
+use Rattle.octets.proofs.text.put_number.Statement.{statement}
+use Rattle.octets.proofs.text.put_number.Tie as tie
+
+put-bytes-requires : tie.Need-put-bytes-requires
+put-bytes-requires c κs = omega arith
+
+put-decimal-requires : tie.Need-put-decimal-requires
+put-decimal-requires c κs =
+    let z = c .before .before .before .put-bytes in
+    let d = decimal-u64 (c .before .before .before .before .before .before .before .before .args .n) (omega (arith, c .before .before .before .before .before .before .before .before .fits .n)) in
+    omega (arith, z .ensures .ends, z .kept .0)
+
+put-bytes-requires-2 : tie.Need-put-bytes-requires-2
+put-bytes-requires-2 c κs =
+    let z = c .before .before .before .before .before .before .before .put-bytes in
+    let y = c .before .before .before .put-decimal in
+    let d = decimal-u64 (c .before .before .before .before .before .before .before .before .before .before .before .before .args .n) (omega (arith, c .before .before .before .before .before .before .before .before .before .before .before .before .fits .n)) in
+    omega (arith, z .ensures .ends, z .kept .0, y .ensures .ends, y .kept .0)
+
+same-length : tie.Need-same-length
+same-length c = search needs
+
+returns : tie.Need-returns
+returns c =
+    let z = c .before .before .before .before .before .before .before .before .before .before .put-bytes in
+    let y = c .before .before .before .before .before .before .put-decimal in
+    let x = c .before .before .put-bytes2 in
+    let d = decimal-u64 (c .before .before .before .before .before .before .before .before .before .before .before .before .before .before .before .args .n) (omega (arith, c .before .before .before .before .before .before .before .before .before .before .before .before .before .before .before .fits .n)) in
+    (then (z .ensures) (then (y .ensures) (x .ensures)), omega (arith, z .ensures .ends, y .ensures .ends, x .ensures .ends))
+
+pub put-number-spec : {M : Type 1} → statement M
+put-number-spec =
+    tie.close
+    (tie.spec put-bytes-requires put-decimal-requires put-bytes-requires-2 same-length returns)

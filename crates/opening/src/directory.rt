@@ -1,0 +1,66 @@
+// The directory of a file's manifest: the entry with an index, read off the segment's own header.
+ghost use mathlib.Core.Path.{_≡_};
+ghost use Prim.Native.Nat.{_+_, _≤_, _<_};
+ghost use lib.ListN.{length};
+ghost use Rattle.manifest.specs.Payload.{confirmed};
+ghost use Rattle.opening.specs.directory.Entry.{entryCase, entryAt};
+use crate::Opened;
+
+// What the directory has at an index: the fields of the entry, the hash as two numbers; or no entry; or the number of a refusal.
+pub enum DirectoryEntry {
+    Of {
+        offset: u64,
+        id: u64,
+        length: u64,
+        hash_low: u64,
+        hash_high: u64,
+        kind: u8,
+        state: u8,
+        flags: u16,
+    },
+    NoEntry,
+    Refused(u32),
+}
+
+// The entry of the link whose header begins at p, with the state that stands at s. A confirmed manifest says of a link what the link's own
+// header says; the state stands in the manifest alone.
+fn read_entry(file: &[u8], p: usize, s: usize) -> DirectoryEntry
+    requires { ⌜ (p + 64 ≤ length (now file)) × (s < length (now file)) ⌝ }
+    ensures { λ r. ⌜ r ≡ entryAt (now (file .entry)) p s ⌝ }
+{
+    DirectoryEntry::Of {
+        offset: p as u64,
+        id: octets::le::u64_at(file, p + 0x08),
+        length: octets::le::u64_at(file, p + 0x10),
+        hash_low: octets::le::u64_at(file, p + 0x28),
+        hash_high: octets::le::u64_at(file, p + 0x30),
+        kind: file[p + 0x05],
+        state: file[s],
+        flags: octets::le::u16_at(file, p + 0x06),
+    }
+}
+
+// The entry with an index in the directory of the file's manifest; 1 and 2 as opening has them.
+pub fn entry(file: &[u8], index: u64) -> DirectoryEntry
+    ensures { λ r. ⌜ r ≡ entryCase (now (file .entry)) index ⌝ }
+{
+    let mut offsets = [0u64; 1025];
+    let found = crate::open_with(file, &mut offsets);
+    match found {
+        Opened::Refused(number) => DirectoryEntry::Refused(number),
+        Opened::NoManifest { tried: _ } => DirectoryEntry::Refused(2),
+        Opened::At {
+            offset,
+            end: _,
+            id: _,
+            count,
+            tried: _,
+        } => {
+            if index >= count as u64 {
+                return DirectoryEntry::NoEntry;
+            }
+            let i = index as usize;
+            read_entry(file, offsets[i] as usize, offset + 72 + 48 * i + 41)
+        }
+    }
+}

@@ -1,0 +1,45 @@
+// The 64 bytes of a segment's header: sound by themselves, and with an id that may follow.
+ghost use mathlib.Core.Path.{_≡_};
+ghost use lib.Dec.{leb};
+ghost use lib.ListN.{length};
+ghost use Rattle.segment.specs.Header.{headSound};
+ghost use Rattle.segment.specs.Step.{leastId};
+
+// Whether an id may follow: the first may be any, and each other is above the one before.
+fn id_above(first: bool, prev: u64, id: u64) -> bool
+    ensures { λ r. ⌜ r ≡ leb (leastId first prev) id ⌝ }
+{
+    if first {
+        return true;
+    }
+    prev < id
+}
+
+// Whether the 64 bytes of a header are sound by themselves: all but the end and the padding.
+pub fn header_sound(h: &[u8], first: bool, prev: u64) -> bool
+    requires { ⌜ length (now h) ≡ 64 ⌝ }
+    ensures { λ r. ⌜ r ≡ headSound (leastId first prev) (now (h .entry)) ⌝ }
+{
+    if !octets::same(&h[..4], &crate::MAGIC) {
+        return false;
+    }
+    if h[0x04] != 1 {
+        return false;
+    }
+    if !crate::kind_held(h[0x05]) {
+        return false;
+    }
+    if !crate::flags_held(octets::le::u16_at(h, 0x06)) {
+        return false;
+    }
+    if h[0x20] != 0 {
+        return false;
+    }
+    if !octets::is_zero(&h[0x21..0x28]) {
+        return false;
+    }
+    if !octets::is_zero(&h[0x38..0x40]) {
+        return false;
+    }
+    id_above(first, prev, octets::le::u64_at(h, 0x08))
+}

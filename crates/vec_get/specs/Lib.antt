@@ -1,2 +1,0 @@
--- A vector by its id out of a payload.
-pub mod Vector

@@ -1,0 +1,53 @@
+// A block of a payload checked: its columns, its id map and its checksum.
+ghost use mathlib.Core.Path.{_≡_};
+ghost use Prim.Native.Nat.{_+_, _*_, _≤_, _^_};
+ghost use lib.ListN.{length};
+ghost use Rattle.vecseg.specs.Payload.{filled, blockOf};
+ghost use Rattle.vec_read.specs.block.Block.{blockAnswer, lineWith};
+use answers::Wrote;
+
+// What the check of a block answers: how many bytes it takes with its padding, or the number of a refusal.
+pub enum Block {
+    Sound(usize),
+    Refused(u32),
+}
+
+// Whether zeros fill a list from a place to the next multiple of 64.
+pub fn is_filled(s: &[u8], at: usize) -> bool
+    requires { ⌜ at + 64 ≤ 2 ^ 64 ⌝ }
+    ensures { λ r. ⌜ r ≡ filled at (now (s .entry)) ⌝ }
+{
+    let end = octets::round_up(at);
+    if s.len() < end {
+        return false;
+    }
+    octets::is_zero(&s[at..end])
+}
+
+// The block at the front of what is left of a payload. Its ids go to a list of our own; the check itself keeps none of them.
+pub fn check_block(s: &[u8], count: usize, dim: usize, dtype: u8, own: &mut [u64]) -> Block
+    requires { ⌜ (1 ≤ count) × ((count ≤ 4096) × ((count ≤ length (now own)) × (dim ≤ 1024))) ⌝ }
+    ensures { λ r. ⌜ r ≡ blockAnswer (blockOf (lineWith count dim dtype) (now (s .entry))) ⌝ }
+{
+    let columns = count * dim * vecseg::width_of(dtype as u64);
+    if s.len() < columns {
+        return Block::Refused(5);
+    }
+    let m = idmap_read::decode::decode(&s[columns..], count, own);
+    match m {
+        Wrote::Refused(_) => return Block::Refused(5),
+        Wrote::Length(n) => {
+            let end = columns + n;
+            if s.len() - end < 4 {
+                return Block::Refused(5);
+            }
+            if octets::le::u32_at(s, end) != crc32c::checksum(&s[..end]) {
+                return Block::Refused(7);
+            }
+            if !is_filled(s, end + 4) {
+                return Block::Refused(5);
+            }
+            Block::Sound(octets::round_up(end + 4))
+        }
+    }
+}

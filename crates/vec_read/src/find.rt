@@ -1,0 +1,88 @@
+// The block and the place of a vector id in a sound VEC_SEG payload, from the last block to the first: ids may repeat, and the last copy counts.
+ghost use mathlib.Core.Path.{_≡_};
+ghost use Prim.Native.Nat.{_+_, _*_, _≤_};
+ghost use lib.ListN.{length, take};
+ghost use Rattle.vecseg.specs.Payload.{checkOf};
+ghost use Rattle.vecseg.specs.Find.{indexOf, findIn};
+ghost use Rattle.vec_read.specs.find.Found.{indexAnswer, foundOf};
+use answers::Wrote;
+
+// Where a number stands in a list.
+pub enum Index {
+    Place(usize),
+    Nowhere,
+}
+
+// Where a vector stands: its block's offset, count, dim and dtype, and which vector of the block it is.
+pub enum Found {
+    At {
+        offset: usize,
+        count: usize,
+        dim: usize,
+        dtype: u8,
+        index: usize,
+    },
+    Missing,
+}
+
+// An id among the first n of a list.
+pub fn index_of(ids: &[u64], n: usize, id: u64) -> Index
+    requires { ⌜ n ≤ length (now ids) ⌝ }
+    ensures { λ r. ⌜ r ≡ indexAnswer (indexOf id (take n (now (ids .entry)))) ⌝ }
+{
+    let mut i: usize = 0;
+    while i < n {
+        if ids[i] == id {
+            return Index::Place(i);
+        }
+        i += 1;
+    }
+    Index::Nowhere
+}
+
+// The search with a list of our own for the ids of a block.
+pub fn find_with(s: &[u8], id: u64, own: &mut [u64]) -> Found
+    requires { ⌜ (checkOf (now s) ≡ 0) × (4096 ≤ length (now own)) ⌝ }
+    ensures { λ r. ⌜ r ≡ foundOf (findIn (now (s .entry)) id) ⌝ }
+{
+    let mut j = octets::le::u32_at(s, 0) as usize;
+    while j > 0 {
+        let line = 4 + 12 * (j - 1);
+        let offset = octets::le::u32_at(s, line) as usize;
+        let count = octets::le::u32_at(s, line + 4) as usize;
+        let dim = octets::le::u16_at(s, line + 8) as usize;
+        let dtype = s[line + 10];
+        let start = offset + count * dim * vecseg::width_of(dtype as u64);
+        let m = idmap_read::decode::decode(&s[start..], count, own);
+        match m {
+            Wrote::Refused(_) => return Found::Missing,
+            Wrote::Length(_) => {
+                let place = index_of(own, count, id);
+                match place {
+                    Index::Place(index) => {
+                        return Found::At {
+                            offset,
+                            count,
+                            dim,
+                            dtype,
+                            index,
+                        };
+                    }
+                    Index::Nowhere => {
+                        j -= 1;
+                    }
+                }
+            }
+        }
+    }
+    Found::Missing
+}
+
+// The search.
+pub fn find(s: &[u8], id: u64) -> Found
+    requires { ⌜ checkOf (now s) ≡ 0 ⌝ }
+    ensures { λ r. ⌜ r ≡ foundOf (findIn (now (s .entry)) id) ⌝ }
+{
+    let mut own = [0u64; 4096];
+    find_with(s, id, &mut own)
+}
