@@ -1,16 +1,16 @@
 -- What a call that writes at the front of a buffer answers, and what the buffer then holds. Every writer of the store is
 -- given by two things: the number by which its input is refused (0 for none), and the bytes that it writes.
 -- Assumes nothing.
-use Prim.Native.Nat.{ℕ, suc, _≤_, _<_}
+use Prim.Native.Nat.{ℕ, _≤_, _<_}
 use mathlib.Core.Path.{_≡_, refl}
-use mathlib.Core.Bool.{Bool, true, false, cond}
+use mathlib.Core.Bool.{false, cond}
 use mathlib.Core.List.{List, [], _∷_}
 use native.Mathlib.Decide.{decLe}
 use native.Mathlib.Nat.{lt-of-not-le}
 use native.Mathlib.Omega.{arith}
 use lib.Dec.{eqb, leb}
 use lib.ListN.{length}
-use borrow.Author.Tests.{eq-eqb, ne-eqb, le-leb, lt-leb}
+use borrow.Author.Tests.{ne-eqb, le-leb, lt-leb}
 use Rattle.octets.specs.Over.{over}
 use Rattle.answers.specs.Answer.{Answer, Accepted, Refusal}
 use Rattle.answers.specs.declared.Wrote.{Wrote}

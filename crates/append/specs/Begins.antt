@@ -21,7 +21,6 @@ use Rattle.batch.specs.Form.{Body}
 use Rattle.appending.specs.Retire.{retirable, retireHeld, retired}
 use Rattle.appending.specs.Append.{keptLinks, startOf, nextId, oldLinks, oldStates, keptStates, newCount, newStates}
 use Rattle.appending.specs.States.{retired-length}
-use Rattle.appending.specs.Opens.{kept}
 use Rattle.appending.specs.Buffer.{start-inside}
 use Rattle.append.specs.commit.Late.{nextOf}
 use Rattle.append.specs.commit.Base.{Base, kept-opens}

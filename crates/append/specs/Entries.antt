@@ -13,7 +13,7 @@ use Rattle.segment.specs.chain.Chain.{All}
 use Rattle.segment.specs.Header.{Link}
 use Rattle.segment.specs.Laws.{linkFront, Lies, lies}
 use Rattle.segment.specs.Chained.{offsetsOf}
-use Rattle.confirm.specs.entries.Links.{Lying}
+use Rattle.manifest.specs.Lying.{Lying}
 
 unfoldable pub idsAt : List ℕ → List ℕ → List ℕ
 idsAt f os = map (λ o. leAt 8 f (o + 0x08)) os

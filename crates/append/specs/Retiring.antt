@@ -2,7 +2,6 @@
 -- Assumes nothing.
 use Prim.Native.Nat.{ℕ, _+_, _-_, _≤_}
 use mathlib.Core.Path.{_≡_, sym, ap, ap₂, subst, _∙_}
-use mathlib.Core.Option.{some}
 use mathlib.Core.List.{List, _∷_, _++_, map}
 use native.Mathlib.Omega.{arith}
 use lib.ListN.{length, take, drop, replicate, length-map}
@@ -15,8 +14,8 @@ use Rattle.segment.specs.Chained.{offsetsOf, Rising, chain-rising}
 use Rattle.manifest.specs.Sized.{length-statesBy}
 use Rattle.manifest.specs.Payload.{entrySize, statesIn}
 use Rattle.manifest.specs.Opening.{opened, states}
-use Rattle.confirm.specs.entries.At.{Inside}
-use Rattle.confirm.specs.entries.Links.{Lying, chain-lying, lying-inside}
+use Rattle.manifest.specs.At.{Inside}
+use Rattle.manifest.specs.Lying.{Lying, chain-lying, lying-inside}
 use Rattle.opening.specs.Indexed.{ManifestAt}
 use Rattle.appending.specs.Retire.{retireHeld, retired}
 use Rattle.appending.specs.Append.{oldLinks, oldStates}

@@ -1,6 +1,6 @@
 -- The ways out of appending: the tests in order, each with what is answered and left.
 -- Assumes nothing.
-use Prim.Native.Nat.{ℕ, zero, suc, _-_, _≤_, _<_}
+use Prim.Native.Nat.{ℕ, zero, suc, _≤_, _<_}
 use mathlib.Core.Path.{_≡_, refl, sym, ap, _∙_}
 use mathlib.Core.Bool.{Bool, true, false, cond}
 use mathlib.Core.Option.{Option, none}
@@ -16,11 +16,11 @@ use Rattle.segment.specs.Header.{Link}
 use Rattle.manifest.specs.Opening.{opened}
 use Rattle.batch.specs.Form.{batchHeld, bodiesOf}
 use Rattle.appending.specs.Retire.{retireHeld}
-use Rattle.appending.specs.Append.{startOf, oldLinks, oldStates, newCount, newStates, newPayload, newBytes, vectorsBad, checked, isNone, appendChecks, answerOn, appendAnswer, bufferOn, appendBuffer, Appends}
+use Rattle.appending.specs.Append.{startOf, oldLinks, oldStates, newCount, newStates, newPayload, newBytes, vectorsBad, checked, isNone, appendChecks, answerOn, appendAnswer, bufferOn, appendBuffer, Appends, appendedAnswer}
 use Rattle.appending.specs.Accepts.{Passed, passed, empty-passes}
-use Rattle.append.specs.declared.commit.Appended.{Appended}
-use Rattle.append.specs.declared.commit.Appended.the-variants.{Refused}
-use Rattle.append.specs.commit.Answer.{appendedAnswer, batchNumber}
+use Rattle.appending.specs.declared.Appended.{Appended}
+use Rattle.appending.specs.declared.Appended.the-variants.{Refused}
+use Rattle.append.specs.commit.Answer.{batchNumber}
 use Rattle.append.specs.commit.Late.{lateChecks, lateAnswer, bytesWith, bufferWith, lateBuffer}
 
 module _ (old : List ℕ) (n : ℕ) (batch ids : List ℕ) (ts : ℕ) where

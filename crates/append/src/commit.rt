@@ -7,15 +7,10 @@ ghost use lib.ListN.{length, take};
 ghost use Rattle.segment.specs.index.Offsets.{most};
 ghost use Rattle.manifest.specs.Opening.{opened};
 ghost use Rattle.batch.specs.Form.{batchHeld, bodiesOf};
-ghost use Rattle.append.specs.commit.Answer.{appendedAnswer};
+ghost use Rattle.appending.specs.Append.{appendedAnswer};
 ghost use Rattle.append.specs.commit.Late.{nextOf, lateAnswer, lateBuffer};
 ghost use Rattle.append.specs.commit.Base.{Base};
-
-// What an append answers: the new end, the manifest's id and the number of its entries; or the number of a refusal.
-pub enum Appended {
-    At { end: usize, id: u64, count: usize },
-    Refused(u32),
-}
+use appending::Appended;
 
 // Whether the new manifest's id would pass the largest number: ids go on from `last`, or from 0 in an empty file.
 fn ids_over(first: bool, last: u64, m: u64) -> bool

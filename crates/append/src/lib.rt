@@ -13,14 +13,14 @@ ghost use lib.ListN.{length, replicate};
 ghost use Rattle.octets.specs.Over.{over};
 ghost use Rattle.segment.specs.index.Offsets.{most};
 ghost use Rattle.manifest.specs.Opening.{opened};
-ghost use Rattle.confirm.specs.entries.At.{Inside};
+ghost use Rattle.manifest.specs.At.{Inside};
 ghost use Rattle.opening.specs.Indexed.{ManifestAt, Indexed};
 ghost use Rattle.appending.specs.Retire.{retireHeld, retired};
-ghost use Rattle.appending.specs.Append.{oldLinks, oldStates, Appends};
-ghost use Rattle.append.specs.commit.Answer.{appendedAnswer, batchNumber};
+ghost use Rattle.appending.specs.Append.{oldLinks, oldStates, Appends, appendedAnswer};
+ghost use Rattle.append.specs.commit.Answer.{batchNumber};
 ghost use Rattle.append.specs.Entries.{idsAt, kindsAt};
-use crate::commit::Appended;
-use opening::Opened;
+use appending::Appended;
+use manifest::Opened;
 
 // The number that a batch is refused with: 10 for its form, then that of its first bad vector body; 0 where it is taken.
 fn batch_number(batch: &[u8]) -> u32

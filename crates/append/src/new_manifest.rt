@@ -6,7 +6,7 @@ ghost use Rattle.octets.specs.Over.{over};
 ghost use Rattle.octets.specs.Round.{round64};
 ghost use Rattle.segment.specs.Written.{segment};
 ghost use Rattle.manifest.specs.Payload.{payloadLength};
-ghost use Rattle.confirm.specs.entries.At.{Inside, payloadAt};
+ghost use Rattle.manifest.specs.At.{Inside, payloadAt};
 
 // The manifest of the links at some offsets, with their states, as a segment at a place. Its payload is put together in a list of our own, since the
 // headers that it copies stand in the same buffer.

@@ -3,7 +3,7 @@ ghost use mathlib.Core.Path.{_≡_};
 ghost use mathlib.Core.Bool.{true};
 ghost use lib.ListN.{length};
 ghost use Rattle.append.specs.retire.Marks.{retireHeldBy, retiredBy, Rises};
-use vec_read::find::Index;
+use octets::numbers::Index;
 
 // Marks the entries whose ids are in the list as retired, in the list's order. False where an id is not there, is of type 0x05, is retired already, or
 // stands in the list twice; the states are then not to be used. Each id marks an entry that was live, so the loop ends after as many turns as there
@@ -16,7 +16,7 @@ pub fn mark(entry_ids: &[u64], kinds: &[u8], states: &mut [u8], ids: &[u64]) -> 
 {
     let mut j: usize = 0;
     while j < ids.len() {
-        let place = vec_read::find::index_of(entry_ids, entry_ids.len(), ids[j]);
+        let place = octets::numbers::index_of(entry_ids, entry_ids.len(), ids[j]);
         match place {
             Index::Nowhere => return false,
             Index::Place(i) => {

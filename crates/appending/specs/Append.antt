@@ -20,6 +20,8 @@ use Rattle.manifest.specs.Opening.{opened, states}
 use Rattle.vecseg.specs.Payload.{vecKind, checkOf, firstOf}
 use Rattle.batch.specs.Form.{Body, batchHeld, bodiesOf}
 use Rattle.appending.specs.Retire.{retireHeld, retired}
+use Rattle.appending.specs.declared.Appended.{Appended}
+use Rattle.appending.specs.declared.Appended.the-variants.{At, Refused}
 
 -- ---- what an append goes on from: the file's manifest, or none
 
@@ -156,3 +158,8 @@ appendBuffer old n batch ids ts = bufferOn (opened (take n old)) old (bodiesOf b
 pub record Appends (old : List ℕ) (n : ℕ) (batch ids : List ℕ) (ts : ℕ) (answer : Answer) (new : List ℕ) : Type 0 where
   pub answers : answer ≡ appendAnswer old n batch ids
   pub leaves : new ≡ appendBuffer old n batch ids ts
+
+-- document 01's number and values for each case
+unfoldable pub appendedAnswer : Appended → Answer
+appendedAnswer (At end id count) = Accepted (end ∷ id ∷ count ∷ [])
+appendedAnswer (Refused n) = Refusal n []

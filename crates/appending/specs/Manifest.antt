@@ -14,8 +14,8 @@ use Rattle.segment.specs.Chained.{chain}
 use Rattle.segment.specs.Written.{linkOf, hash-length}
 use Rattle.manifest.specs.Sized.{length-entriesOf, statesBy-entries}
 use Rattle.manifest.specs.Payload.{entrySize, entryBytes, entries, recordEnd, recordBytes, root, payloadLength, manifestPayload, statesIn}
-use Rattle.confirm.specs.entries.At.{record-ge, length-root}
-use Rattle.confirm.specs.entries.Links.{Lying, chain-lying}
+use Rattle.manifest.specs.At.{record-ge, length-root}
+use Rattle.manifest.specs.Lying.{Lying, chain-lying}
 use Rattle.batch.specs.Form.{Body}
 use Rattle.appending.specs.Append.{bodySize, bodyLinks}
 

@@ -13,10 +13,12 @@ use Rattle.answers.specs.limits.Limits.{maxFile}
 use Rattle.answers.specs.Answer.{Answer, Accepted, Refusal}
 use Rattle.segment.specs.chain.Chain.{All}
 use Rattle.segment.specs.chain.Last.{Found, upTo}
-use Rattle.segment.specs.Header.{Link, size}
-use Rattle.segment.specs.index.Offsets.{noLink}
-use Rattle.manifest.specs.Opening.{opened, states, tried, openFound, openAnswer, at-within}
-use Rattle.opening.specs.directory.Entry.{entryValues, entryFound, entryAnswer}
+use Rattle.segment.specs.Header.{Link, size, noLink}
+use Rattle.manifest.specs.Opening.{opened, states, tried, foundCase, openedAnswer, openAnswer}
+use Rattle.manifest.specs.OpeningLaws.{at-within, open-within}
+use Rattle.manifest.specs.Directory.{entryOf, entryIn, entryCase}
+use Rattle.manifest.specs.declared.DirectoryEntry.{DirectoryEntry}
+use Rattle.manifest.specs.declared.DirectoryEntry.the-variants.{NoEntry, Refused as NotOpened}
 use Rattle.reading.specs.Placed.{InFile, before-in}
 use Rattle.batch.specs.Form.{bodiesOf}
 use Rattle.appending.specs.Append.{startOf, oldStates, keptLinks, newEnd, bufferOn, appendBuffer, Appends}
@@ -27,8 +29,8 @@ use Rattle.claim.specs.Agree.{Agree, foundBy, run-agrees, agree-empty, a
 use Rattle.claim.specs.Reports.{lastAccepted, reported, last-reported, Recorded, recorded-all}
 
 -- the directory's entry with an index, as the model has it
-unfoldable pub entryBy : List Entry → ℕ → Answer
-entryBy es i = cond (leb (length es) i) (Refusal 255 []) (Accepted (entryValues (getD (linksOf es) i noLink) (getD (statesOf es) i 0)))
+unfoldable pub entryBy : List Entry → ℕ → DirectoryEntry
+entryBy es i = cond (leb (length es) i) NoEntry (entryOf (getD (linksOf es) i noLink) (getD (statesOf es) i 0))
 
 -- after a list of calls: the file and the model
 pub record Claim (cs : List Call) (g : List ℕ) (k : Model) : Type 0 where
@@ -38,7 +40,7 @@ pub record Claim (cs : List Call) (g : List ℕ) (k : Model) : Type 0 where
   pub answers : (m : Entry) → k .manifest ≡ some m
       → openAnswer g ≡ Accepted (m .link .offset ∷ k .end ∷ m .link .id ∷ length (k .entries) ∷ (length g / 64 - m .link .offset / 64) ∷ [])
   -- 'the directory is those entries'
-  pub directory : (m : Entry) → k .manifest ≡ some m → (i : ℕ) → entryAnswer g i ≡ entryBy (k .entries) i
+  pub directory : (m : Entry) → k .manifest ≡ some m → (i : ℕ) → entryCase g i ≡ entryBy (k .entries) i
   -- 'The last accepted append answered the same end, id and c'
   pub last : (m : Entry) → k .manifest ≡ some m → (a : Answer) → lastAccepted cs ≡ some a
       → a ≡ Accepted (k .end ∷ m .link .id ∷ length (k .entries) ∷ [])
@@ -58,25 +60,25 @@ module _ (g : List ℕ) (k : Model) (a : Agree g k) where
   has-manifest m e = a .opens ∙ ap (foundBy (k .entries)) e
 
   pub opening-refuses : k .manifest ≡ none → openAnswer g ≡ Refusal 2 (length g / 64 ∷ [])
-  unfolding openAnswer openFound tried
-  opening-refuses e = at-within (Refusal 1 []) (openFound g) g (a .fits) ∙ ap (openFound g) (no-manifest e)
+  unfolding openedAnswer foundCase tried
+  opening-refuses e = open-within g (a .fits) ∙ ap (λ (o : Option (Found Link)). openedAnswer (foundCase g o)) (no-manifest e)
 
   pub opening-answers : (m : Entry) → k .manifest ≡ some m
       → openAnswer g ≡ Accepted (m .link .offset ∷ k .end ∷ m .link .id ∷ length (k .entries) ∷ (length g / 64 - m .link .offset / 64) ∷ [])
-  unfolding openAnswer openFound tried startOf
+  unfolding openedAnswer foundCase tried startOf
   opening-answers m e =
       let o = has-manifest m e in
       let z : m .link .offset + size (m .link) ≡ k .end = sym (ap startOf o) ∙ a .end-is in
       let n : length (linksOf (k .entries)) ≡ length (k .entries) = length-map (k .entries) (λ (x : Entry). x .link) in
-      at-within (Refusal 1 []) (openFound g) g (a .fits) ∙ ap (openFound g) o ∙ rw (z, n)
+      open-within g (a .fits) ∙ ap (λ (o : Option (Found Link)). openedAnswer (foundCase g o)) o ∙ rw (z, n)
 
-  pub directory-is : (m : Entry) → k .manifest ≡ some m → (i : ℕ) → entryAnswer g i ≡ entryBy (k .entries) i
-  unfolding entryAnswer entryFound entryBy oldStates
+  pub directory-is : (m : Entry) → k .manifest ≡ some m → (i : ℕ) → entryCase g i ≡ entryBy (k .entries) i
+  unfolding entryCase entryIn entryBy oldStates
   directory-is m e i =
       let o = has-manifest m e in
       let n : length (linksOf (k .entries)) ≡ length (k .entries) = length-map (k .entries) (λ (x : Entry). x .link) in
       let s : states (record { before = linksOf (k .entries); link = m .link }) ≡ statesOf (k .entries) = sym (ap oldStates o) ∙ a .states-are in
-      at-within (Refusal 1 []) (entryFound i) g (a .fits) ∙ ap (entryFound i) o ∙ rw (n, s)
+      at-within (NotOpened 1) (entryIn i) g (a .fits) ∙ ap (entryIn i) o ∙ rw (n, s)
 
   pub entries-lie : All (InFile g) (linksOf (k .entries))
   unfolding foundBy All upTo

@@ -15,8 +15,10 @@ use Rattle.answers.specs.Answer.{Answer, Accepted, Refusal}
 use Rattle.segment.specs.chain.Last.{Found}
 use Rattle.segment.specs.Header.{Link}
 use Rattle.segment.specs.Laws.{size-least}
-use Rattle.manifest.specs.Opening.{opened, openFound, openAnswer, at-within, answers-alike}
-use Rattle.opening.specs.directory.Entry.{entryFound, entryAnswer}
+use Rattle.manifest.specs.Opening.{opened, foundCase, openedAnswer, openAnswer}
+use Rattle.manifest.specs.OpeningLaws.{open-within, answers-alike}
+use Rattle.manifest.specs.Directory.{entryIn, entryCase}
+use Rattle.manifest.specs.declared.DirectoryEntry.the-variants.{Refused as NotOpened}
 use Rattle.reading.specs.Answers.{NotHanded, partFound, partIn, Bad, hitFound, hitIn, vectorHit, bufferHit, vectorCase, vectorAfter, valueHit, valueIn}
 use Rattle.batch.specs.Form.{bodiesOf}
 use Rattle.appending.specs.Append.{startOf, newEnd, newBytes, checked, isNone, appendChecks, answerOn, appendAnswer, Appends}
@@ -36,28 +38,28 @@ withoutTried (Refusal n vs) = Refusal n []
 -- length and bytes': every reading call answers alike on two files
 pub record Alike (f g : List ℕ) : Type 0 where
   pub opening : withoutTried (openAnswer f) ≡ withoutTried (openAnswer g)
-  pub entry : (i : ℕ) → entryAnswer f i ≡ entryAnswer g i
+  pub entry : (i : ℕ) → entryCase f i ≡ entryCase g i
   pub payload : (id : ℕ) → partIn f id ≡ partIn g id
   pub vector : (id : ℕ) (buf : List ℕ) → vectorCase f id buf ≡ vectorCase g id buf
   pub buffer : (id : ℕ) (buf : List ℕ) → vectorAfter f id buf ≡ vectorAfter g id buf
   pub component : (id i : ℕ) → valueIn f id i ≡ valueIn g id i
 
-tried-apart : (f g : List ℕ) (o : Option (Found Link)) → withoutTried (openFound f o) ≡ withoutTried (openFound g o)
-unfolding withoutTried openFound
+tried-apart : (f g : List ℕ) (o : Option (Found Link)) → withoutTried (openedAnswer (foundCase f o)) ≡ withoutTried (openedAnswer (foundCase g o))
+unfolding withoutTried openedAnswer foundCase
 tried-apart f g none = refl
 tried-apart f g (some r) = refl
 
 -- all of them are functions of what opening finds
 pub alike : (f g : List ℕ) → length f ≤ maxFile → length g ≤ maxFile → opened f ≡ opened g → Alike f g
-unfolding openAnswer entryAnswer partIn vectorCase vectorAfter valueIn hitIn
+unfolding entryCase partIn vectorCase vectorAfter valueIn hitIn
 alike f g h k e =
     let hit : (id : ℕ) → hitIn f id ≡ hitIn g id = λ id. answers-alike (Bad 1) (hitFound id) f g h k e in
     record {
       opening =
-          ap withoutTried (at-within (Refusal 1 []) (openFound f) f h ∙ ap (openFound f) e)
+          ap withoutTried (open-within f h ∙ ap (λ (o : Option (Found Link)). openedAnswer (foundCase f o)) e)
           ∙ tried-apart f g (opened g)
-          ∙ ap withoutTried (sym (at-within (Refusal 1 []) (openFound g) g k));
-      entry = λ i. answers-alike (Refusal 1 []) (entryFound i) f g h k e;
+          ∙ ap withoutTried (sym (open-within g k));
+      entry = λ i. answers-alike (NotOpened 1) (entryIn i) f g h k e;
       payload = λ id. answers-alike (NotHanded 1) (partFound id) f g h k e;
       vector = λ id buf. ap (vectorHit buf) (hit id);
       buffer = λ id buf. ap (bufferHit buf) (hit id);

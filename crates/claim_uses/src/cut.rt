@@ -6,9 +6,9 @@ ghost use lib.ListN.{length};
 ghost use Rattle.manifest.specs.Opening.{opened};
 ghost use Rattle.appending.specs.Append.{startOf, appendBuffer};
 ghost use Rattle.claim_uses.specs.cut.CutRead.{Says};
-use append::commit::Appended;
-use opening::Opened;
-use vec_read::Vector;
+use appending::Appended;
+use manifest::Opened;
+use vecseg::Vector;
 
 // The vector; or the number by which the append refused; or that k leaves all of the new bytes.
 pub enum CutRead {

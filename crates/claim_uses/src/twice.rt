@@ -2,8 +2,8 @@
 // model alone: that the two agree is the claim about every list of appends.
 ghost use mathlib.Core.Path.{_≡_};
 ghost use Rattle.claim_uses.specs.twice.Twice.{Says, twiceBuffer};
-use append::commit::Appended;
-use opening::Opened;
+use appending::Appended;
+use manifest::Opened;
 
 // What opening answers at the end: the manifest's offset, end and id and the number of its entries; or no manifest; or the number by
 // which an append refused.

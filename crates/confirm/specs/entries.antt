@@ -1,4 +1,2 @@
 -- A manifest's payload by the file alone, its laws, and the steps of writing it.
-pub mod At
-pub mod Links
 pub mod Laid

@@ -4,7 +4,7 @@ ghost use mathlib.Core.List.{[], _∷_};
 ghost use Prim.Native.Nat.{_+_, _*_, _≤_, _<_};
 ghost use lib.ListN.{length, take, drop};
 ghost use Rattle.octets.specs.Over.{over};
-ghost use Rattle.confirm.specs.entries.At.{Inside, entryAt, entriesAt};
+ghost use Rattle.manifest.specs.At.{Inside, entryAt, entriesAt};
 
 // Some bytes of the file, at a place of a buffer.
 fn copy_at(buf: &mut [u8], at: usize, file: &[u8], from: usize, n: usize)

@@ -7,7 +7,7 @@ ghost use mathlib.Core.Path.{_≡_};
 ghost use Prim.Native.Nat.{_+_, _*_, _≤_};
 ghost use lib.ListN.{length, take};
 ghost use Rattle.manifest.specs.Payload.{payloadLength};
-ghost use Rattle.confirm.specs.entries.At.{Inside};
+ghost use Rattle.manifest.specs.At.{Inside};
 ghost use Rattle.confirm.specs.states.At.{statesHeldAt, confirmedAt};
 
 // Whether each of the links at some offsets may have its state.

@@ -5,7 +5,7 @@ ghost use lib.ListN.{length, replicate};
 ghost use Rattle.octets.specs.Over.{over};
 ghost use Rattle.octets.specs.Round.{round64};
 ghost use Rattle.manifest.specs.Payload.{payloadLength, root};
-ghost use Rattle.confirm.specs.entries.At.{Inside, payloadAt};
+ghost use Rattle.manifest.specs.At.{Inside, payloadAt};
 
 // The bytes that a root begins with.
 const NAME: [u8; 4] = [0x52, 0x56, 0x4D, 0x30];

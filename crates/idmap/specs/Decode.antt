@@ -2,7 +2,7 @@
 -- break makes the map broken, which is refusal 5.
 -- Assumes nothing.
 use Prim.Native.Nat.{ℕ, zero, suc, _+_, _-_, _*_, _/_, _^_}
-use mathlib.Core.Bool.{Bool, true, false, cond, _&&_}
+use mathlib.Core.Bool.{Bool, cond, _&&_}
 use mathlib.Core.List.{List, [], _∷_, _++_}
 use lib.Dec.{eqb, leb, ltb}
 use lib.ListN.{length, getD, take, drop}
@@ -11,7 +11,6 @@ use Rattle.octets.specs.le.Le.{leOf, leAt}
 use Rattle.answers.specs.limits.Limits.{maxVectors}
 use Rattle.answers.specs.declared.Wrote.{Wrote}
 use Rattle.answers.specs.declared.Wrote.the-variants.{Length, Refused}
-use Rattle.varint.specs.declared.Varint.{Varint}
 use Rattle.varint.specs.declared.Varint.the-variants.{Value, Refused as BadVarint}
 use Rattle.varint.specs.Varint.{readVarint}
 use Rattle.idmap.specs.Encode.{leftAfter}

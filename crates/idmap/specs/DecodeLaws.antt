@@ -1,43 +1,32 @@
 -- Laws of the id map as it is read: where the reading loops stand, their next turns and their ways out.
 -- Assumes nothing.
-use Prim.Native.Nat.{ℕ, zero, suc, _+_, _-_, _*_, _/_, _^_, _≤_, _<_}
-use mathlib.Core.Path.{_≡_, refl, sym, ap, _∙_}
-use mathlib.Core.Bool.{Bool, true, false, cond, _&&_}
+use Prim.Native.Nat.{ℕ, suc, _+_, _-_, _*_, _≤_, _<_}
+use mathlib.Core.Path.{_≡_, refl, sym, _∙_}
+use mathlib.Core.Bool.{true, false}
 use mathlib.Core.List.{List, [], _∷_, _++_}
-use native.Mathlib.Nat.{suc-mul, add-zero, le-div-iff-mul-le, div-le-self}
 use native.Mathlib.Numerals.{add-one}
 use native.Mathlib.Omega.{arith}
-use lib.Dec.{eqb, leb, ltb}
-use lib.ListN.{length, getD, take, drop, set, length-set}
-use lib.Seq.{drop-drop, take-suc-set, length-take-le, take-take}
-use borrow.Author.Tests.{le-leb, lt-leb, lt-ltb, le-ltb, eq-eqb, ne-eqb}
+use lib.Dec.{eqb, leb}
+use lib.ListN.{length, take, drop, set}
+use lib.Seq.{drop-drop, take-suc-set, length-take-le}
+use borrow.Author.Tests.{le-leb, lt-leb, ne-eqb}
 use Rattle.octets.specs.le.Le.{leOf, leAt}
-use Rattle.octets.specs.Over.{over}
-use Rattle.answers.specs.declared.Wrote.{Wrote}
+use Rattle.octets.specs.numbers.Numbers.{leastNext}
 use Rattle.answers.specs.declared.Wrote.the-variants.{Length, Refused}
-use Rattle.varint.specs.declared.Varint.{Varint}
-use Rattle.varint.specs.declared.Varint.the-variants.{Value, Refused as BadVarint}
-use Rattle.varint.specs.Varint.{readVarint}
-use Rattle.varint.specs.Trip.{read-fits}
-use Rattle.idmap.specs.Encode.{leftAfter}
-use Rattle.idmap.specs.Decode.{MapRead, Whole, Broken, readRaw, rawMap, idOf, idHeld, offsBehind, readDeltas, groups, deltaMap, mapBody, mapOf, idsOf, mapAnswer, readAnswer, readBuffer}
+use Rattle.idmap.specs.Decode.{MapRead, Whole, Broken, readRaw, rawMap, idsOf, mapAnswer}
 
 -- the least id that may come behind i ids, the last of which is prev
-unfoldable pub lowOf : ℕ → ℕ → ℕ
-lowOf zero prev = 0
-lowOf (suc i) prev = suc prev
+abbrev pub lowOf : ℕ → ℕ → ℕ
+lowOf i prev = leastNext (eqb i 0) prev
 
 pub low-more : (i x : ℕ) → lowOf (i + 1) x ≡ suc x
-unfolding lowOf
-low-more i x = rw add-one
+low-more i x = rw (ne-eqb (i + 1) 0 (λ q. omega arith)) (omega arith)
 
 pub low-none : (i prev : ℕ) → i ≡ 0 → lowOf i prev ≡ 0
-unfolding lowOf
 low-none i prev z = rw z
 
 pub low-some : (i prev : ℕ) → 0 < i → lowOf i prev ≡ suc prev
-unfolding lowOf
-low-some i prev h = let l : i ≡ suc (i - 1) = omega arith in rw l
+low-some i prev h = rw (ne-eqb i 0 (λ q. omega arith)) (omega arith)
 
 -- what a list for the ids holds at its front: those that were read
 abbrev pub Filled : MapRead → List ℕ → Type 0
@@ -70,7 +59,6 @@ pub record RawAt (s : List ℕ) (count i prev : ℕ) (ids : List ℕ) : Type 0 w
   pub same : readRaw (7 + 8 * count) (count - i) (lowOf i prev) (take i ids) (drop (7 + 8 * i) s) ≡ readRaw (7 + 8 * count) count 0 [] (drop 7 s)
 
 pub raw-first : (s : List ℕ) (count : ℕ) (ids : List ℕ) → RawAt s count 0 0 ids
-unfolding lowOf
 raw-first s count ids =
     let e : count - 0 ≡ count = omega arith in
     record { few = omega arith; same = rw e }

@@ -1,23 +1,20 @@
 -- Laws of a delta map as it is read: where the reading loop stands, its next turn and its ways out.
 -- Assumes nothing.
-use Prim.Native.Nat.{ℕ, zero, suc, _+_, _-_, _*_, _/_, _^_, _≤_, _<_}
-use mathlib.Core.Path.{_≡_, refl, sym, ap, _∙_}
-use mathlib.Core.Bool.{Bool, true, false, cond, _&&_}
+use Prim.Native.Nat.{ℕ, zero, suc, _+_, _-_, _*_, _≤_, _<_}
+use mathlib.Core.Path.{_≡_, refl, sym, _∙_}
+use mathlib.Core.Bool.{true, false}
 use mathlib.Core.List.{List, [], _∷_, _++_}
 use native.Mathlib.Nat.{suc-mul, le-div-iff-mul-le, div-le-self}
 use native.Mathlib.Numerals.{add-one}
 use native.Mathlib.Omega.{arith}
-use lib.Dec.{eqb, leb, ltb}
-use lib.ListN.{length, getD, take, drop, set, length-drop}
+use lib.ListN.{length, take, drop, set, length-drop}
 use lib.Seq.{drop-drop, take-suc-set}
-use borrow.Author.Tests.{le-leb, lt-leb, lt-ltb, le-ltb, eq-eqb, ne-eqb}
-use Rattle.octets.specs.le.Le.{leOf, leAt}
-use Rattle.varint.specs.declared.Varint.{Varint}
+use borrow.Author.Tests.{le-leb, lt-leb}
 use Rattle.varint.specs.declared.Varint.the-variants.{Value, Refused as BadVarint}
 use Rattle.varint.specs.Varint.{readVarint}
 use Rattle.varint.specs.Trip.{read-fits}
 use Rattle.idmap.specs.Encode.{leftAfter}
-use Rattle.idmap.specs.Decode.{MapRead, Whole, Broken, idOf, idHeld, offsBehind, readDeltas, groups, deltaMap}
+use Rattle.idmap.specs.Decode.{Whole, Broken, idOf, idHeld, offsBehind, readDeltas, groups, deltaMap}
 use Rattle.idmap.specs.DecodeLaws.{lowOf, low-more}
 
 -- ---- groups
@@ -84,7 +81,6 @@ pub record DeltaAt (s : List ℕ) (count r start i left prev pos g : ℕ) (ids :
       ≡ readDeltas start r count 0 0 0 (drop 7 s) [] (drop start s)
 
 pub delta-first : (s : List ℕ) (count r start : ℕ) (ids : List ℕ) → start ≤ length s → DeltaAt s count r start 0 0 0 start 0 ids
-unfolding lowOf
 delta-first s count r start ids h =
     let e : count - 0 ≡ count = omega arith in
     let f : start - start ≡ 0 = omega arith in

@@ -77,7 +77,6 @@ pub record IdsAt (ids : List ℕ) (i left prev : ℕ) : Type 0 where
   pub up : risesFrom (lowOf i prev) (drop i ids) ≡ true
 
 pub ids-first : (ids : List ℕ) → risesFrom 0 ids ≡ true → IdsAt ids 0 0 0
-unfolding lowOf
 ids-first ids h = record { few = omega arith; first = λ z. refl; up = h }
 
 rises-cons : (low : ℕ) (ids : List ℕ) (i : ℕ) → i < length ids → risesFrom low (drop i ids) ≡ leb low (getD ids i 0) && risesFrom (suc (getD ids i 0)) (drop (suc i) ids)

@@ -1,23 +1,21 @@
 -- What the id-map writer writes is read back as the ids, for every list that it accepts and whatever bytes follow.
 -- Assumes nothing.
-use Prim.Native.Nat.{ℕ, zero, suc, _+_, _-_, _*_, _/_, _^_, _≤_, _<_}
+use Prim.Native.Nat.{ℕ, zero, suc, _+_, _-_, _*_, _^_, _≤_, _<_}
 use mathlib.Core.Path.{_≡_, refl, sym, ap, _∙_}
-use mathlib.Core.Bool.{Bool, true, false, cond, _&&_}
+use mathlib.Core.Bool.{Bool, true, false, cond}
 use mathlib.Core.List.{List, [], _∷_, _++_, append-assoc, append-nil}
-use native.Mathlib.Nat.{add-assoc, add-zero}
 use native.Mathlib.Omega.{arith}
-use lib.Dec.{eqb, leb, ltb}
+use lib.Dec.{eqb, leb}
 use lib.ListN.{length, getD, take, drop, length-append}
 use lib.Seq.{take-at, drop-at, drop-drop}
 use borrow.Author.Tests.{le-leb, lt-ltb, eq-eqb, leb-true, eqb-true, eqb-false}
-use Rattle.octets.specs.le.Le.{leOf, leAt, leBytes}
+use Rattle.octets.specs.le.Le.{leOf, leBytes}
 use Rattle.octets.specs.le.Laws.{length-leBytes, leOf-leBytes}
-use Rattle.varint.specs.declared.Varint.{Varint}
 use Rattle.varint.specs.declared.Varint.the-variants.{Value}
 use Rattle.varint.specs.Varint.{varintOf, readVarint}
 use Rattle.varint.specs.Trip.{read-varint, varint-short}
-use Rattle.idmap.specs.Encode.{mapHead, rawIds, deltaOf, leftAfter, deltas, restartOf, restarts, intervalOf, mapBytes, risesFrom, intervalHeld, mapBad}
-use Rattle.idmap.specs.Decode.{MapRead, Whole, Broken, readRaw, rawMap, idOf, idHeld, offsBehind, readDeltas, groups, deltaMap, mapBody, mapOf}
+use Rattle.idmap.specs.Encode.{mapHead, rawIds, deltaOf, leftAfter, deltas, restartOf, restarts, intervalOf, mapBytes, risesFrom, mapBad}
+use Rattle.idmap.specs.Decode.{Whole, readRaw, rawMap, idOf, idHeld, offsBehind, readDeltas, groups, deltaMap, mapBody, mapOf}
 use Rattle.idmap.specs.DeltaLaws.{deltas-next}
 use Rattle.idmap.specs.EncodeLaws.{length-head, length-rawIds, length-restarts}
 use Rattle.octets.specs.Zero.{and-split}

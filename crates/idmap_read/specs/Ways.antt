@@ -1,15 +1,12 @@
 -- The ways out of the id-map reader, one law each, ending in its promises.
 -- Assumes nothing.
 use Prim.Native.Nat.{ℕ, _≤_, _<_}
-use mathlib.Core.Path.{_≡_, refl, sym, _∙_}
-use mathlib.Core.Bool.{cond, _&&_}
+use mathlib.Core.Path.{_≡_, refl}
 use mathlib.Core.List.{List}
 use native.Mathlib.Omega.{arith}
-use lib.Dec.{leb}
 use lib.ListN.{length, take}
 use borrow.Author.Tests.{le-leb, lt-leb}
 use Rattle.octets.specs.Over.{over}
-use Rattle.answers.specs.declared.Wrote.{Wrote}
 use Rattle.answers.specs.declared.Wrote.the-variants.{Length, Refused}
 use Rattle.idmap.specs.Decode.{MapRead, Whole, Broken, mapOf, idsOf, mapAnswer, readAnswer, readBuffer}
 use Rattle.idmap.specs.DecodeLaws.{Filled, was-broken, was-whole}

@@ -2,6 +2,7 @@
 ghost use mathlib.Core.Path.{_≡_};
 ghost use Prim.Native.Nat.{_+_, _≤_, _<_};
 ghost use lib.ListN.{length, drop};
+ghost use Rattle.idmap.specs.Encode.{leftAfter};
 ghost use Rattle.idmap.specs.Decode.{deltaMap, mapAnswer};
 ghost use Rattle.idmap.specs.DecodeLaws.{lowOf, Filled};
 ghost use Rattle.idmap.specs.DeltaLaws.{groupAfter};
@@ -32,7 +33,7 @@ fn next_id(
         if octets::le::u32_at(s, offset) as usize != at {
             return NextId::Refused(5);
         }
-        if idmap::rises(i, prev, value) {
+        if octets::numbers::follows(i == 0, prev, value) {
             return NextId::Id(value);
         }
         return NextId::Refused(5);
@@ -44,6 +45,14 @@ fn next_id(
         return NextId::Refused(5);
     }
     NextId::Id(prev + value)
+}
+
+// How many ids of the group are left behind one.
+pub fn left_after(r: usize, left: usize) -> usize
+    requires { ⌜ 0 < r ⌝ }
+    ensures { λ x. ⌜ x ≡ leftAfter r left ⌝ }
+{
+    if left == 0 { r - 1 } else { left - 1 }
 }
 
 // How many groups have begun behind one id.
@@ -82,7 +91,7 @@ pub fn decode_delta(s: &[u8], count: usize, r: usize, ids: &mut [u64]) -> Wrote
                         prev = id;
                         pos += length;
                         g = group_after(left, g);
-                        left = idmap::left_after(r, left);
+                        left = left_after(r, left);
                         i += 1;
                     }
                 }

@@ -54,7 +54,7 @@ pub fn deltas_len(ids: &[u64], r: usize) -> usize
         let x = ids[i];
         let d = delta(left, prev, x);
         total += varint::write::encoded_len(d);
-        left = idmap::left_after(r, left);
+        left = idmap_read::delta::left_after(r, left);
         prev = x;
         i += 1;
     }
@@ -91,7 +91,7 @@ pub fn put_deltas(buf: &mut [u8], ids: &[u64], r: usize, start: usize)
         let d = delta(left, prev, x);
         place = put_restart(buf, place, left, pos - start);
         pos = varint::write::put(buf, pos, d);
-        left = idmap::left_after(r, left);
+        left = idmap_read::delta::left_after(r, left);
         prev = x;
         i += 1;
     }

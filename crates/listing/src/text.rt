@@ -7,7 +7,7 @@ ghost use Rattle.manifest.specs.Opening.{opened};
 ghost use Rattle.opening.specs.Indexed.{Indexed};
 ghost use Rattle.listing.specs.line.Listing.{listFound, listText};
 ghost use Rattle.listing.specs.text.Whole.{OpensAt};
-use opening::Opened;
+use manifest::Opened;
 
 // The list of a file that opens. The heading takes 34 bytes, a line at most 97 and the last line at most 52.
 fn put_list(

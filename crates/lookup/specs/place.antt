@@ -1,3 +1,2 @@
 -- What a place of a payload promises, and the search for it.
-pub mod Place
 pub mod Find

@@ -1,3 +1,2 @@
 -- A vector and a component of a file, by what the search has found.
-pub mod Component
 pub mod Value

@@ -7,7 +7,7 @@ ghost use Rattle.segment.specs.index.Offsets.{most};
 ghost use Rattle.opening.specs.Indexed.{ManifestAt, Indexed};
 ghost use Rattle.reading.specs.Answers.{hitIn};
 ghost use Rattle.lookup.specs.in_segment.Located.{locatedOf};
-use opening::Opened;
+use manifest::Opened;
 use crate::in_segment::Located;
 
 // The search in the directory of the manifest at an offset, down from its last entry.

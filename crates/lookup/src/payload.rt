@@ -2,29 +2,30 @@
 ghost use mathlib.Core.Path.{_≡_};
 ghost use lib.ListN.{length};
 ghost use Rattle.answers.specs.Answer.{number};
-ghost use Rattle.reading.specs.Answers.{partIn, partAnswer};
-ghost use Rattle.lookup.specs.place.Place.{placeNumber, Hands, HandsPart};
-use crate::place::Place;
+ghost use Rattle.reading.specs.Answers.{partIn};
+ghost use Rattle.reading.specs.PartLaws.{placeNumber, Hands};
+ghost use Rattle.reading.specs.Part.{placeOf, placeAnswer, HandsPart};
+use reading::PayloadPlace;
 
 // The number of a place: 0 where it is one.
-pub fn number_of(place: Place) -> u32
+pub fn number_of(place: PayloadPlace) -> u32
     ensures { λ r. ⌜ r ≡ placeNumber place ⌝ }
 {
     match place {
-        Place::At {
+        PayloadPlace::At {
             start: _,
             length: _,
         } => 0,
-        Place::Refused(number) => number,
+        PayloadPlace::Refused(number) => number,
     }
 }
 
 // The part of the file at a place, by its bytes and by where it lies; nothing of the file where there is none.
-pub fn part_at(file: &[u8], place: Place) -> &[u8]
+pub fn part_at(file: &[u8], place: PayloadPlace) -> &[u8]
     ensures { λ r. ⌜ Hands r (file .entry) place ⌝ }
 {
     match place {
-        Place::At { start, length } => {
+        PayloadPlace::At { start, length } => {
             if start > file.len() {
                 return &file[..0];
             }
@@ -34,7 +35,7 @@ pub fn part_at(file: &[u8], place: Place) -> &[u8]
             let end = start + length;
             &file[start..end]
         }
-        Place::Refused(_) => &file[..0],
+        PayloadPlace::Refused(_) => &file[..0],
     }
 }
 
@@ -46,7 +47,7 @@ pub struct HandedPart<'a> {
 
 // The payload of the segment with an id: 1, 2, 3, 4, else that part of the lent file itself.
 pub fn payload<'a>(file: &'a [u8], id: u64) -> HandedPart<'a>
-    ensures { λ r. ⌜ (r .number ≡ number (partAnswer (partIn (now (file .entry)) id))) × HandsPart (r .part) (file .entry) (partIn (now (file .entry)) id) ⌝ }
+    ensures { λ r. ⌜ (r .number ≡ number (placeAnswer (placeOf (partIn (now (file .entry)) id)))) × HandsPart (r .part) (file .entry) (partIn (now (file .entry)) id) ⌝ }
 {
     let place = crate::place::payload_place(file, id);
     HandedPart {

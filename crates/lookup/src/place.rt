@@ -6,17 +6,12 @@ ghost use Rattle.segment.specs.index.Offsets.{most};
 ghost use Rattle.opening.specs.Indexed.{ManifestAt, Indexed};
 ghost use Rattle.answers.specs.Answer.{number};
 ghost use Rattle.reading.specs.Answers.{partIn};
-ghost use Rattle.lookup.specs.place.Place.{placeOf};
-use opening::Opened;
-
-// Where a payload begins in the file and how long it is; or the number of a refusal.
-pub enum Place {
-    At { start: usize, length: usize },
-    Refused(u32),
-}
+ghost use Rattle.reading.specs.Part.{placeOf};
+use manifest::Opened;
+use reading::PayloadPlace;
 
 // The live segment with an id in the directory of the manifest at an offset: 3 where there is none, 4 where the hash differs.
-fn find(file: &[u8], offsets: &[u64], manifest: usize, count: usize, id: u64) -> Place
+fn find(file: &[u8], offsets: &[u64], manifest: usize, count: usize, id: u64) -> PayloadPlace
     requires { ⌜ most ≤ length (now offsets) ⌝ }
     requires { ⌜ Indexed (now file) (now offsets) ⌝ }
     requires { ⌜ ManifestAt (now file) manifest count ⌝ }
@@ -35,25 +30,25 @@ fn find(file: &[u8], offsets: &[u64], manifest: usize, count: usize, id: u64) ->
         }
         let length = octets::le::u64_at(file, p + 0x10) as usize;
         if !segment::is_whole(file, p, length) {
-            return Place::Refused(4);
+            return PayloadPlace::Refused(4);
         }
-        return Place::At {
+        return PayloadPlace::At {
             start: p + 64,
             length,
         };
     }
-    Place::Refused(3)
+    PayloadPlace::Refused(3)
 }
 
 // Where the payload of the segment with an id lies: 1, 2, 3, 4. A damaged layout inside doesn't stop it.
-pub fn payload_place(file: &[u8], id: u64) -> Place
+pub fn payload_place(file: &[u8], id: u64) -> PayloadPlace
     ensures { λ r. ⌜ r ≡ placeOf (partIn (now (file .entry)) id) ⌝ }
 {
     let mut offsets = [0u64; 1025];
     let found = opening::open_with(file, &mut offsets);
     match found {
-        Opened::Refused(number) => Place::Refused(number),
-        Opened::NoManifest { tried: _ } => Place::Refused(2),
+        Opened::Refused(number) => PayloadPlace::Refused(number),
+        Opened::NoManifest { tried: _ } => PayloadPlace::Refused(2),
         Opened::At {
             offset,
             end: _,

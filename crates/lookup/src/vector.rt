@@ -1,28 +1,17 @@
 // A vector of a file by its id, and a component of one. The search is one; what is found is read off the file.
 ghost use mathlib.Core.Path.{_≡_};
 ghost use Rattle.reading.specs.Answers.{vectorCase, vectorAfter, valueIn};
-ghost use Rattle.lookup.specs.vector.Component.{componentCase, bitsCase};
+ghost use Rattle.reading.specs.Component.{componentCase, bitsCase};
 ghost use Rattle.lookup.specs.vector.Value.{Lies};
 use answers::Wrote;
 use crate::in_segment::Located;
-use vec_read::Vector;
-use vec_read::values::Component;
+use vecseg::Vector;
+use reading::ComponentBits;
+use reading::ComponentRead;
 
 // Where a component's value stands in the file, with its dtype; or the number of a refusal.
 pub enum ValuePlace {
     At { at: usize, dtype: u8 },
-    Refused(u32),
-}
-
-// A component by its kind, or the number of a refusal.
-pub enum Read {
-    Value(Component),
-    Refused(u32),
-}
-
-// A component's dtype and the bytes of its value as a number, so that a NaN keeps its payload; or the number of a refusal.
-pub enum Bits {
-    Of { dtype: u8, bits: u32 },
     Refused(u32),
 }
 
@@ -79,7 +68,7 @@ fn value_place(file: &[u8], id: u64, component: u64) -> ValuePlace
                 return ValuePlace::Refused(8);
             }
             let d = component as usize;
-            let width = vecseg::width_of(dtype as u64);
+            let width = vec_read::width::width_of(dtype as u64);
             ValuePlace::At {
                 at: body + (offset + (d * count + index) * width),
                 dtype,
@@ -89,31 +78,31 @@ fn value_place(file: &[u8], id: u64, component: u64) -> ValuePlace
 }
 
 // A component of the vector with an id, by its index: 1, 2, the search, then 8.
-pub fn component(file: &[u8], id: u64, index: u64) -> Read
+pub fn component(file: &[u8], id: u64, index: u64) -> ComponentRead
     ensures { λ r. ⌜ r ≡ componentCase (valueIn (now (file .entry)) id index) ⌝ }
 {
     let place = value_place(file, id, index);
     match place {
-        ValuePlace::Refused(number) => Read::Refused(number),
-        ValuePlace::At { at, dtype } => Read::Value(vec_read::values::component_at(file, at, dtype)),
+        ValuePlace::Refused(number) => ComponentRead::Refused(number),
+        ValuePlace::At { at, dtype } => ComponentRead::Value(vec_read::values::component_at(file, at, dtype)),
     }
 }
 
 // The same by its bytes.
-pub fn component_bits(file: &[u8], id: u64, index: u64) -> Bits
+pub fn component_bits(file: &[u8], id: u64, index: u64) -> ComponentBits
     ensures { λ r. ⌜ r ≡ bitsCase (valueIn (now (file .entry)) id index) ⌝ }
 {
     let place = value_place(file, id, index);
     match place {
-        ValuePlace::Refused(number) => Bits::Refused(number),
+        ValuePlace::Refused(number) => ComponentBits::Refused(number),
         ValuePlace::At { at, dtype } => {
             if dtype == 0 {
-                return Bits::Of {
+                return ComponentBits::Of {
                     dtype,
                     bits: octets::le::u32_at(file, at),
                 };
             }
-            Bits::Of {
+            ComponentBits::Of {
                 dtype,
                 bits: file[at] as u32,
             }

@@ -2,3 +2,9 @@
 pub mod Payload
 pub mod Opening
 pub mod Sized
+pub mod At
+pub mod Directory
+pub mod Lying
+pub mod OpeningLaws
+pub mod EntryOut
+pub mod OpenOut

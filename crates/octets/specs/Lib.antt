@@ -5,3 +5,4 @@ pub mod Round
 pub mod Zero
 pub mod le
 pub mod text
+pub mod numbers

@@ -1,5 +1,6 @@
 // Slices of bytes: copied, cleared, tested for zero, compared; and rounding to 64.
 pub mod le;
+pub mod numbers;
 pub mod text;
 ghost use mathlib.Core.Path.{_≡_};
 ghost use Prim.Native.Nat.{_+_, _≤_, _<_, _^_};

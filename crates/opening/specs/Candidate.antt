@@ -13,7 +13,7 @@ use Rattle.segment.specs.Chained.{chain, offsetsOf}
 use Rattle.segment.specs.index.Offsets.{most, linkNo, Stored, stored-few}
 use Rattle.segment.specs.index.Numbered.{Numbered}
 use Rattle.manifest.specs.Payload.{confirmed}
-use Rattle.confirm.specs.entries.At.{Inside}
+use Rattle.manifest.specs.At.{Inside}
 use Rattle.confirm.specs.states.At.{confirmedAt}
 use Rattle.confirm.specs.states.Links.{before-inside, confirmed-at}
 

@@ -17,18 +17,19 @@ use Rattle.octets.specs.le.Le.{Bytes, leAt}
 use Rattle.answers.specs.limits.Limits.{maxFile, maxEntries}
 use Rattle.segment.specs.chain.Chain.{sizes}
 use Rattle.segment.specs.chain.Last.{Found, openOf, Stands, last-stands}
-use Rattle.segment.specs.Header.{Link, whole, size, reader}
+use Rattle.segment.specs.Header.{Link, whole, size, reader, noLink}
 use Rattle.segment.specs.Chained.{chain, offsetsOf, link-place}
-use Rattle.segment.specs.index.Offsets.{most, noLink, linkNo, Stored, stored-has, stored-few}
+use Rattle.segment.specs.index.Offsets.{most, linkNo, Stored, stored-has, stored-few}
 use Rattle.segment.specs.index.Numbered.{Numbered, numbered, numbered-at, number-of}
 use Rattle.manifest.specs.Sized.{statesBy-at}
 use Rattle.manifest.specs.Payload.{manifestKind, entrySize, statesHeld, confirmed, manifestPayload, payloadLength, statesIn}
-use Rattle.manifest.specs.Opening.{opened, states, at-long, at-within}
-use Rattle.confirm.specs.entries.At.{length-payloadAt, record-ge}
-use Rattle.confirm.specs.entries.Links.{lying-inside, payload-lying, chain-lying}
-use Rattle.opening.specs.declared.Opened.{Opened}
-use Rattle.opening.specs.declared.Opened.the-variants.{At, NoManifest, Refused}
-use Rattle.opening.specs.Opened.{foundCase, openedCase, bounded}
+use Rattle.manifest.specs.Opening.{opened, states, foundCase, openedCase}
+use Rattle.manifest.specs.OpeningLaws.{at-long, at-within}
+use Rattle.manifest.specs.At.{length-payloadAt, record-ge}
+use Rattle.manifest.specs.Lying.{lying-inside, payload-lying, chain-lying}
+use Rattle.manifest.specs.declared.Opened.{Opened}
+use Rattle.manifest.specs.declared.Opened.the-variants.{At, NoManifest, Refused}
+use Rattle.opening.specs.Opened.{bounded}
 use Rattle.opening.specs.Candidate.{front-offsets}
 
 -- ---- what an answer says

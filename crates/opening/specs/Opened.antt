@@ -2,72 +2,20 @@
 -- Assumes nothing.
 use Prim.Native.Nat.{ℕ, _+_, _-_, _/_, _≤_, _<_}
 use mathlib.Core.Path.{_≡_, refl, sym, _∙_}
-use mathlib.Core.Bool.{Bool, true, false, cond, _&&_}
-use mathlib.Core.Option.{Option, none, some}
-use mathlib.Core.List.{List, [], _∷_}
-use lib.Dec.{eqb, leb}
-use lib.ListN.{length, drop, set}
-use lib.Seq.{sets}
+use mathlib.Core.Bool.{Bool, true, false, _&&_}
+use mathlib.Core.Option.{none, some}
+use mathlib.Core.List.{List}
+use lib.Dec.{eqb}
+use lib.ListN.{length, drop}
 use borrow.Author.Tests.{lt-leb}
 use Rattle.octets.specs.Zero.{sameBytes}
-use Rattle.answers.specs.Answer.{Answer, Accepted, Refusal, number}
 use Rattle.answers.specs.limits.Limits.{maxFile, maxEntries}
-use Rattle.segment.specs.chain.Last.{Found}
 use Rattle.segment.specs.Header.{Link, whole, size}
 use Rattle.manifest.specs.Payload.{manifestKind, statesHeld, statesIn, manifestPayload, confirmed}
-use Rattle.manifest.specs.Opening.{opened, tried, openFound, openAnswer, atOpened, at-long, at-within}
-use Rattle.opening.specs.declared.Opened.{Opened}
-use Rattle.opening.specs.declared.Opened.the-variants.{At, NoManifest, Refused}
-
--- the number and the values of each case
-unfoldable pub openedAnswer : Opened → Answer
-openedAnswer (At offset end id count t) = Accepted (offset ∷ end ∷ id ∷ count ∷ t ∷ [])
-openedAnswer (NoManifest t) = Refusal 2 (t ∷ [])
-openedAnswer (Refused n) = Refusal n []
-
--- what an array for the values holds after the call: the values, or what it held; where no manifest is found, the boundaries tried at index 4
--- alone
-unfoldable pub openOut : List ℕ → Answer → List ℕ
-openOut out (Accepted vs) = sets out 0 vs
-openOut out (Refusal n []) = out
-openOut out (Refusal n (t ∷ ts)) = set out 4 t
-
--- the case of what is found
-unfoldable pub foundCase : List ℕ → Option (Found Link) → Opened
-foundCase f none = NoManifest (tried f none)
-foundCase f (some r) = At (r .link .offset) (r .link .offset + size (r .link)) (r .link .id) (length (r .before)) (tried f (some r))
-
-unfoldable pub openedCase : List ℕ → Opened
-openedCase f = atOpened (Refused 1) (foundCase f) f
-
--- the two say the same
-found-same : (f : List ℕ) (o : Option (Found Link)) → openedAnswer (foundCase f o) ≡ openFound f o
-unfolding openedAnswer foundCase openFound
-found-same f none = refl
-found-same f (some r) = refl
-
-pub opened-same : (f : List ℕ) → openedAnswer (openedCase f) ≡ openAnswer f
-unfolding openedCase openAnswer openedAnswer atOpened
-opened-same f = pick (leb (length f) maxFile)
-  where
-    pick : (t : Bool) → openedAnswer (cond t (foundCase f (opened f)) (Refused 1)) ≡ cond t (openFound f (opened f)) (Refusal 1 [])
-    pick true = found-same f (opened f)
-    pick false = refl
-
--- ---- an exported call's number and array, case by case
-
-pub out-opened : (f out : List ℕ) (offset end id count t : ℕ) → At offset end id count t ≡ openedCase f
-    → (0 ≡ number (openAnswer f)) × (sets out 0 (offset ∷ end ∷ id ∷ count ∷ t ∷ []) ≡ openOut out (openAnswer f))
-unfolding openedAnswer number openOut
-out-opened f out offset end id count t e = rw (← opened-same f, ← e) (refl, refl)
-
-pub out-none : (f out : List ℕ) (t : ℕ) → NoManifest t ≡ openedCase f → (2 ≡ number (openAnswer f)) × (set out 4 t ≡ openOut out (openAnswer f))
-unfolding openedAnswer number openOut
-out-none f out t e = rw (← opened-same f, ← e) (refl, refl)
-
-pub out-refused : (f out : List ℕ) (n : ℕ) → Refused n ≡ openedCase f → (n ≡ number (openAnswer f)) × (out ≡ openOut out (openAnswer f))
-unfolding openedAnswer number openOut
-out-refused f out n e = rw (← opened-same f, ← e) (refl, refl)
+use Rattle.manifest.specs.Opening.{opened, tried, foundCase, openedCase}
+use Rattle.manifest.specs.OpeningLaws.{at-long, at-within}
+use Rattle.manifest.specs.declared.Opened.{Opened}
+use Rattle.manifest.specs.declared.Opened.the-variants.{At, NoManifest, Refused}
 
 -- ---- the ways out
 

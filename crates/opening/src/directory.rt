@@ -3,24 +3,10 @@ ghost use mathlib.Core.Path.{_≡_};
 ghost use Prim.Native.Nat.{_+_, _≤_, _<_};
 ghost use lib.ListN.{length};
 ghost use Rattle.manifest.specs.Payload.{confirmed};
-ghost use Rattle.opening.specs.directory.Entry.{entryCase, entryAt};
-use crate::Opened;
-
-// What the directory has at an index: the fields of the entry, the hash as two numbers; or no entry; or the number of a refusal.
-pub enum DirectoryEntry {
-    Of {
-        offset: u64,
-        id: u64,
-        length: u64,
-        hash_low: u64,
-        hash_high: u64,
-        kind: u8,
-        state: u8,
-        flags: u16,
-    },
-    NoEntry,
-    Refused(u32),
-}
+ghost use Rattle.manifest.specs.Directory.{entryCase};
+ghost use Rattle.opening.specs.directory.Entry.{entryAt};
+use manifest::DirectoryEntry;
+use manifest::Opened;
 
 // The entry of the link whose header begins at p, with the state that stands at s. A confirmed manifest says of a link what the link's own
 // header says; the state stands in the manifest alone.

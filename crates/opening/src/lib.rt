@@ -7,26 +7,10 @@ ghost use Rattle.segment.specs.Chained.{chain};
 ghost use Rattle.segment.specs.index.Offsets.{most, linkNo, Stored};
 ghost use Rattle.segment.specs.index.Numbered.{Numbered};
 ghost use Rattle.manifest.specs.Payload.{confirmed};
-ghost use Rattle.manifest.specs.Opening.{opened};
+ghost use Rattle.manifest.specs.Opening.{opened, foundCase, openedCase};
 ghost use Rattle.answers.specs.limits.Limits.{maxFile};
-ghost use Rattle.opening.specs.Opened.{foundCase, openedCase};
 ghost use Rattle.opening.specs.Indexed.{Indexed};
-
-// What opening a file answers: its manifest's offset, end and id, the number of its entries and the boundaries tried; or no manifest
-// with the boundaries tried; or the number of a refusal.
-pub enum Opened {
-    At {
-        offset: usize,
-        end: usize,
-        id: u64,
-        count: usize,
-        tried: usize,
-    },
-    NoManifest {
-        tried: usize,
-    },
-    Refused(u32),
-}
+use manifest::Opened;
 
 // Whether the link with number i, which begins at p, is a confirmed manifest.
 fn candidate(file: &[u8], offsets: &[u64], n: usize, i: usize, p: usize) -> bool

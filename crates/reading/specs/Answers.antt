@@ -5,18 +5,15 @@ use mathlib.Core.Bool.{cond}
 use mathlib.Core.Option.{Option, none, some}
 use mathlib.Core.List.{List, [], _∷_}
 use lib.Dec.{eqb, ltb}
-use lib.ListN.{length}
-use Rattle.octets.specs.le.Le.{leOf}
-use Rattle.answers.specs.Answer.{Answer, Accepted, Refusal}
 use Rattle.answers.specs.Write.{writeAnswer, writeBuffer}
 use Rattle.segment.specs.chain.Last.{Found}
 use Rattle.segment.specs.Header.{Link, whole}
 use Rattle.manifest.specs.Opening.{atOpened}
 use Rattle.vecseg.specs.Payload.{checkOf}
 use Rattle.vecseg.specs.Find.{Place, findIn, vectorOf, valueAt}
-use Rattle.vec_read.specs.Vector.{readOf}
-use Rattle.vec_read.specs.declared.Vector.{Vector}
-use Rattle.vec_read.specs.declared.Vector.the-variants.{Refused}
+use Rattle.vecseg.specs.Vector.{readOf}
+use Rattle.vecseg.specs.declared.Vector.{Vector}
+use Rattle.vecseg.specs.declared.Vector.the-variants.{Refused}
 use Rattle.reading.specs.Live.{live, searchOrder, withId}
 
 -- ---- a payload by its segment's id
@@ -37,11 +34,6 @@ partFound id (some r) = partOf (withId id (live r))
 
 unfoldable pub partIn : List ℕ → ℕ → Part
 partIn f id = atOpened (NotHanded 1) (partFound id) f
-
--- its number and values: where the part begins, and its length
-unfoldable pub partAnswer : Part → Answer
-partAnswer (Handed start bytes) = Accepted (start ∷ length bytes ∷ [])
-partAnswer (NotHanded n) = Refusal n []
 
 -- ---- the search for a vector id
 
@@ -108,8 +100,3 @@ valueHit i (Bad n) = NoValue n
 
 unfoldable pub valueIn : List ℕ → ℕ → ℕ → Value
 valueIn f id i = valueHit i (hitIn f id)
-
--- its number and values: the dtype, and the bytes as a number
-unfoldable pub valueAnswer : Value → Answer
-valueAnswer (Stored dtype bytes) = Accepted (dtype ∷ leOf bytes ∷ [])
-valueAnswer (NoValue n) = Refusal n []

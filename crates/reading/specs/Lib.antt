@@ -3,3 +3,6 @@ pub mod Live
 pub mod Answers
 pub mod Laws
 pub mod Placed
+pub mod Component
+pub mod Part
+pub mod PartLaws

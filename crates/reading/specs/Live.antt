@@ -11,8 +11,7 @@ use lib.ListN.{length, take, drop, getD, drop-of-length-le}
 use lib.Seq.{getD-drop, drop-cons, drop-drop, take-length, take-suc, length-take-le}
 use borrow.Author.Tests.{eq-eqb, ne-eqb}
 use Rattle.segment.specs.chain.Last.{Found}
-use Rattle.segment.specs.Header.{Link}
-use Rattle.segment.specs.index.Offsets.{noLink}
+use Rattle.segment.specs.Header.{Link, noLink}
 use Rattle.manifest.specs.Opening.{states}
 use Rattle.vecseg.specs.Payload.{vecKind}
 

@@ -1,6 +1,6 @@
 -- Where an answer lies in the file: a live segment's payload is the file's bytes behind its header.
 -- Assumes nothing.
-use Prim.Native.Nat.{ℕ, _+_, _-_, _≤_}
+use Prim.Native.Nat.{ℕ, _+_, _≤_}
 use mathlib.Core.Path.{_≡_, refl, sym, ap, subst, _∙_}
 use mathlib.Core.Bool.{Bool, true, false, cond}
 use mathlib.Core.Option.{Option, none, some, Option·some-injective}
@@ -18,8 +18,9 @@ use Rattle.segment.specs.Header.{Link, whole}
 use Rattle.segment.specs.Laws.{linkFront, Lies, lies}
 use Rattle.segment.specs.Chained.{chain}
 use Rattle.manifest.specs.Payload.{confirmed}
-use Rattle.manifest.specs.Opening.{opened, states, atOpened, at-long, at-within}
-use Rattle.confirm.specs.entries.Links.{Lying, chain-lying}
+use Rattle.manifest.specs.Opening.{opened, states, atOpened}
+use Rattle.manifest.specs.OpeningLaws.{at-long, at-within}
+use Rattle.manifest.specs.Lying.{Lying, chain-lying}
 use Rattle.vecseg.specs.Payload.{vecKind}
 use Rattle.vecseg.specs.Find.{Place, findIn}
 use Rattle.reading.specs.Live.{liveOf, live, vectorsOf, searchOrder, withId}

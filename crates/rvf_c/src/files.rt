@@ -1,11 +1,10 @@
 // Files: opening, and the directory of the file's manifest.
 ghost use mathlib.Core.Path.{_≡_};
-ghost use Rattle.answers.specs.Answer.{number, outOf};
-ghost use Rattle.manifest.specs.Opening.{openAnswer};
-ghost use Rattle.opening.specs.Opened.{openOut};
-ghost use Rattle.opening.specs.directory.Entry.{entryAnswer};
-use opening::directory::DirectoryEntry;
-use opening::Opened;
+ghost use Rattle.answers.specs.Answer.{number};
+ghost use Rattle.manifest.specs.Opening.{openAnswer, openOut};
+ghost use Rattle.manifest.specs.Directory.{entryCase, entryNumber, entryOut};
+use manifest::DirectoryEntry;
+use manifest::Opened;
 
 // The file's manifest: offset, end, id, the number of its entries and the boundaries tried; 1; or 2, which writes the boundaries tried alone.
 #[no_mangle]
@@ -37,12 +36,12 @@ pub extern "C" fn rvf_open(file: &[u8], out: &mut [u64; 5]) -> u32
     }
 }
 
-// The entry with an index in the directory: offset, id, payload length, hash bytes 0 to 7 and 8 to 15, type, state, flags; 1, 2, or 255 where the
-// index is not below the number of entries.
+// The entry with an index in the directory: offset, id, payload length, hash bytes 0 to 7 and 8 to 15, type, state,
+// flags; or 1, 2. Where the index is not below the number of entries it returns 255, which is no refusal.
 #[no_mangle]
 pub extern "C" fn rvf_entry(file: &[u8], index: u64, out: &mut [u64; 8]) -> u32
-    ensures { λ r. ⌜ r ≡ number (entryAnswer (now (file .entry)) index) ⌝ }
-    ensures { λ _. ⌜ now (out .exit) ≡ outOf (now (out .entry)) (entryAnswer (now (file .entry)) index) ⌝ }
+    ensures { λ r. ⌜ r ≡ entryNumber (entryCase (now (file .entry)) index) ⌝ }
+    ensures { λ _. ⌜ now (out .exit) ≡ entryOut (now (out .entry)) (entryCase (now (file .entry)) index) ⌝ }
 {
     let e = opening::directory::entry(file, index);
     match e {

@@ -4,9 +4,9 @@ ghost use Rattle.answers.specs.Answer.{number, outOf};
 ghost use Rattle.answers.specs.Write.{wroteAnswer, writeAnswer, writeBuffer};
 ghost use Rattle.vecseg.specs.Payload.{checkOf};
 ghost use Rattle.vecseg.specs.Writer.{vecBad, vecBytes};
-ghost use Rattle.vec_read.specs.Vector.{vectorAnswer, vectorIn, vectorBuffer};
+ghost use Rattle.vecseg.specs.Vector.{vectorAnswer, vectorIn, vectorBuffer};
 use answers::Wrote;
-use vec_read::Vector;
+use vecseg::Vector;
 
 // The check of a payload: 5, 6, 7, or 0 where it is sound.
 #[no_mangle]

@@ -2,7 +2,7 @@
 ghost use mathlib.Core.Path.{_≡_};
 ghost use Rattle.answers.specs.Answer.{number, outOf};
 ghost use Rattle.appending.specs.Append.{appendAnswer, appendBuffer};
-use append::commit::Appended;
+use appending::Appended;
 
 // A batch appended to the file that is the first n bytes of a buffer, some ids retired: the new end, the manifest's id and the number of its entries;
 // or 9, 1, 2, 10, then 5, 6, 7, then 11, 12, 13, 1, 9.

@@ -134,3 +134,7 @@ contentHash payload = leBytes 4 (crcOf payload) ++ replicate 12 0
 -- 'A link is whole'
 unfoldable pub whole : Link → Bool
 whole l = sameBytes (l .hash) (contentHash (l .payload))
+
+-- what stands past a list's end; no law depends on it
+abbrev pub noLink : Link
+noLink = record { offset = 0; id = 0; kind = 0; flags = 0; timestamp = 0; hash = []; payload = [] }

@@ -19,15 +19,11 @@ use Rattle.segment.specs.declared.Step.{Step}
 use Rattle.segment.specs.declared.Step.the-variants.{Sound, Stop}
 use Rattle.segment.specs.Header.{Link, State, linkAt, size, hashIn, contentHash, read, sizeAt, sound, headSound, lengthIn, idIn, kindIn, flagsIn, whole}
 use Rattle.segment.specs.Laws.{linkFront, link-front, number-front, Lies, lies}
-
--- 'id above the id of the link before (the first link: any id)', as the least id
-abbrev pub leastId : Bool → ℕ → ℕ
-leastId true prev = 0
-leastId false prev = prev + 1
+use Rattle.octets.specs.numbers.Numbers.{leastNext}
 
 -- what the link at a place is read with
 abbrev pub stateAt : ℕ → Bool → ℕ → State
-stateAt at first prev = record { at = at; least = leastId first prev }
+stateAt at first prev = record { at = at; least = leastNext first prev }
 
 -- of a link: its end, id, payload length, type and flags
 unfoldable pub stepOf : Option Link → Step
@@ -88,7 +84,7 @@ module _ (f : List ℕ) (at : ℕ) (first : Bool) (prev : ℕ) where
     abbrev pad : List ℕ
     pad = take (at + 64 + m - (at + 64 + n)) (drop (at + 64 + n) f)
 
-    tests : linkAt (stateAt at first prev) (drop at f) ≡ cond (headSound (leastId first prev) head && allZero pad) (some (linkFront at (drop at f))) none
+    tests : linkAt (stateAt at first prev) (drop at f) ≡ cond (headSound (leastNext first prev) head && allZero pad) (some (linkFront at (drop at f))) none
     tests =
         let g : lengthIn (take 64 (drop at f)) ≡ n = rw (← head-is) (sym e) in
         let k : 64 + round64 n ≤ length (drop at f) = rw (length-drop, ← z) fits in
@@ -96,15 +92,15 @@ module _ (f : List ℕ) (at : ℕ) (first : Bool) (prev : ℕ) where
         let b : at + 64 + n ≡ at + (64 + n) = omega arith in
         link-tests (stateAt at first prev) (drop at f) n g k ∙ rw (head-is, a, b, drop-drop)
 
-    pub step-unsound : headSound (leastId first prev) head ≡ false → Stop ≡ stepAt f at first prev
+    pub step-unsound : headSound (leastNext first prev) head ≡ false → Stop ≡ stepAt f at first prev
     unfolding stepAt stepOf
     step-unsound h = rw (tests, h)
 
-    pub step-padding : headSound (leastId first prev) head ≡ true → allZero pad ≡ false → Stop ≡ stepAt f at first prev
+    pub step-padding : headSound (leastNext first prev) head ≡ true → allZero pad ≡ false → Stop ≡ stepAt f at first prev
     unfolding stepAt stepOf
     step-padding h k = rw (tests, h, k)
 
-    pub step-sound : headSound (leastId first prev) head ≡ true → allZero pad ≡ true → (id flags : ℕ) → id ≡ leAt 8 head 0x08 → flags ≡ leAt 2 head 0x06
+    pub step-sound : headSound (leastNext first prev) head ≡ true → allZero pad ≡ true → (id flags : ℕ) → id ≡ leAt 8 head 0x08 → flags ≡ leAt 2 head 0x06
         → Sound (at + 64 + m) id n (getD head 0x05 0) flags ≡ stepAt f at first prev
     unfolding stepAt stepOf linkFront size
     step-sound h k id flags p q =

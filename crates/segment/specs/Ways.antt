@@ -1,20 +1,19 @@
 -- The ways out of the tests on a header, each with its law.
 -- Assumes nothing.
-use mathlib.Core.Path.{_≡_, refl, sym, _∙_}
+use mathlib.Core.Path.{_≡_, sym, _∙_}
 use mathlib.Core.Bool.{Bool, true, false, and-true}
 use mathlib.Core.List.{List}
-use Prim.Native.Nat.{ℕ, _+_, _-_, _≤_, _<_}
+use Prim.Native.Nat.{ℕ, _≤_, _<_}
 use native.Mathlib.Omega.{arith}
-use lib.Dec.{leb, ltb}
+use lib.Dec.{leb}
 use lib.ListN.{take, drop, getD, replicate}
-use borrow.Author.Tests.{lt-leb, le-leb, ltb-true, ltb-false}
+use borrow.Author.Tests.{lt-leb, le-leb}
 use Rattle.octets.specs.Over.{over}
 use Rattle.octets.specs.Zero.{allZero, sameBytes}
 use Rattle.octets.specs.le.Le.{leBytes}
 use Rattle.crc32c.specs.Crc.{crcOf}
 use Rattle.segment.specs.Tests.{all, all-fails}
 use Rattle.segment.specs.Header.{magic, typeHeld, flagsHeld, headSound, headTests, kindIn, flagsIn, idIn, contentHash}
-use Rattle.segment.specs.Step.{leastId}
 
 -- ---- types
 
@@ -29,18 +28,6 @@ kind-named t h k = rw (le-leb 0x01 t h, le-leb t 0x0C k)
 pub kind-extension : (t : ℕ) → 0x0C < t → t < 256 → leb 0xF0 t ≡ typeHeld t
 unfolding typeHeld
 kind-extension t h k = rw (le-leb 0x01 t (omega arith), lt-leb t 0x0C h, le-leb t 0xFF (omega arith)) (sym (and-true (leb 0xF0 t)))
-
--- ---- ids
-
-pub above-first : (first : Bool) (prev id : ℕ) → first ≡ true → true ≡ leb (leastId first prev) id
-above-first first prev id e = rw e (sym (le-leb 0 id (omega arith)))
-
-pub above-next : (first : Bool) (prev id : ℕ) → first ≡ false → ltb prev id ≡ leb (leastId first prev) id
-above-next first prev id e = rw e (go (ltb prev id) refl)
-  where
-    go : (t : Bool) → ltb prev id ≡ t → t ≡ leb (prev + 1) id
-    go true h = let k : prev < id = ltb-true prev id h in sym (le-leb (prev + 1) id (omega arith))
-    go false h = let k : id ≤ prev = ltb-false prev id h in sym (lt-leb (prev + 1) id (omega arith))
 
 -- ---- the content hash, laid over zeros
 

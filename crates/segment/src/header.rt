@@ -3,22 +3,12 @@ ghost use mathlib.Core.Path.{_≡_};
 ghost use lib.Dec.{leb};
 ghost use lib.ListN.{length};
 ghost use Rattle.segment.specs.Header.{headSound};
-ghost use Rattle.segment.specs.Step.{leastId};
-
-// Whether an id may follow: the first may be any, and each other is above the one before.
-fn id_above(first: bool, prev: u64, id: u64) -> bool
-    ensures { λ r. ⌜ r ≡ leb (leastId first prev) id ⌝ }
-{
-    if first {
-        return true;
-    }
-    prev < id
-}
+ghost use Rattle.octets.specs.numbers.Numbers.{leastNext};
 
 // Whether the 64 bytes of a header are sound by themselves: all but the end and the padding.
 pub fn header_sound(h: &[u8], first: bool, prev: u64) -> bool
     requires { ⌜ length (now h) ≡ 64 ⌝ }
-    ensures { λ r. ⌜ r ≡ headSound (leastId first prev) (now (h .entry)) ⌝ }
+    ensures { λ r. ⌜ r ≡ headSound (leastNext first prev) (now (h .entry)) ⌝ }
 {
     if !octets::same(&h[..4], &crate::MAGIC) {
         return false;
@@ -41,5 +31,5 @@ pub fn header_sound(h: &[u8], first: bool, prev: u64) -> bool
     if !octets::is_zero(&h[0x38..0x40]) {
         return false;
     }
-    id_above(first, prev, octets::le::u64_at(h, 0x08))
+    octets::numbers::follows(first, prev, octets::le::u64_at(h, 0x08))
 }

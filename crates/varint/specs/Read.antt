@@ -1,8 +1,8 @@
 -- Laws of what is read: where the reading loop stands, and its ways out.
 -- Assumes nothing.
-use Prim.Native.Nat.{ℕ, zero, suc, _+_, _-_, _*_, _^_, _≤_, _<_}
+use Prim.Native.Nat.{ℕ, suc, _+_, _-_, _*_, _^_, _≤_, _<_}
 use mathlib.Core.Path.{_≡_, refl, sym, ap, _∙_}
-use mathlib.Core.List.{List, [], _∷_}
+use mathlib.Core.List.{List}
 use mathlib.Core.Bool.{Bool, true, false, cond}
 use native.Mathlib.Nat.{mul-add, mul-one, mul-assoc, add-assoc, mul-le-mul-left, pow-suc, pow-le-pow-right}
 use native.Mathlib.Numerals.{add-one}

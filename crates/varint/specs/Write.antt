@@ -1,15 +1,15 @@
 -- Laws of what is written: the last byte, a byte before it, the places of both in the whole, and where the writing loops stand.
 -- Assumes nothing.
 use Prim.Native.Nat.{ℕ, zero, suc, _+_, _-_, _*_, _/_, _%_, _^_, _≤_, _<_}
-use mathlib.Core.Path.{_≡_, refl, sym, ap, _∙_}
-use mathlib.Core.List.{List, [], _∷_, _++_}
+use mathlib.Core.Path.{_≡_, refl, ap, _∙_}
+use mathlib.Core.List.{List, [], _∷_}
 use native.Mathlib.Nat.{pow-suc}
 use native.Mathlib.Numerals.{add-one}
 use native.Mathlib.Omega.{arith}
 use lib.ListN.{length, getD, take, drop, set, length-drop}
 use lib.Seq.{drop-cons, take-suc, take-length, length-take-le}
 use borrow.Author.Tests.{lt-ltb, le-ltb}
-use Rattle.octets.specs.Over.{over, over-none, over-turn}
+use Rattle.octets.specs.Over.{over, over-turn}
 use Rattle.varint.specs.Varint.{leb128, varintOf}
 
 pub leb-last : (k n : ℕ) → n < 128 → leb128 (suc k) n ≡ n ∷ []

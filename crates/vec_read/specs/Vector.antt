@@ -1,54 +1,24 @@
 -- A vector by its id out of a payload: the payload is checked whole first, 5, 6 or 7; then 8 where no block holds the id;
 -- then 9 where the buffer is short; else the vector's bytes at the buffer's front.
 -- Assumes nothing.
-use Prim.Native.Nat.{ℕ, zero, suc, _+_, _*_, _≤_, _<_}
+use Prim.Native.Nat.{ℕ, _*_}
 use mathlib.Core.Path.{_≡_, refl, sym, ap, _∙_}
-use mathlib.Core.Bool.{cond}
 use mathlib.Core.Option.{Option, none, some}
-use mathlib.Core.List.{List, [], _∷_}
+use mathlib.Core.List.{List}
 use native.Mathlib.Omega.{arith}
-use lib.Dec.{eqb, leb}
 use lib.ListN.{length}
-use borrow.Author.Tests.{eq-eqb, ne-eqb}
-use Rattle.answers.specs.Answer.{Answer, Accepted, Refusal}
+use borrow.Author.Tests.{ne-eqb}
 use Rattle.answers.specs.Write.{writeAnswer, writeBuffer}
-use Rattle.answers.specs.declared.Wrote.{Wrote}
 use Rattle.answers.specs.declared.Wrote.the-variants.{Length, Refused as WroteRefused}
-use Rattle.vecseg.specs.Payload.{Line, checkOf, width, columnsLength}
+use Rattle.vecseg.specs.Payload.{checkOf, width, columnsLength}
 use Rattle.vecseg.specs.LineLaws.{width-most}
 use Rattle.vecseg.specs.Find.{Place, findIn, vectorOf}
-use Rattle.vecseg.specs.FindLaws.{PlaceGood, found-good}
+use Rattle.vecseg.specs.FindLaws.{found-good}
 use Rattle.vec_read.specs.find.Found.{foundOf}
-use Rattle.vec_read.specs.declared.find.Found.{Found}
 use Rattle.vec_read.specs.declared.find.Found.the-variants.{At, Missing as NotFound}
 use Rattle.vec_read.specs.values.Vector.{placeWith, vector-with, Bounds}
-use Rattle.vec_read.specs.declared.Vector.{Vector}
-use Rattle.vec_read.specs.declared.Vector.the-variants.{Read, Refused}
-
--- document 01's number and values for each case
-abbrev pub vectorAnswer : Vector → Answer
-vectorAnswer (Read dim dtype n) = Accepted (dim ∷ dtype ∷ n ∷ [])
-vectorAnswer (Refused e) = Refusal e []
-
--- a found vector: dim, dtype and the length written, or 9
-unfoldable pub readOf : Place → Wrote → Vector
-readOf p (Length n) = Read (p .line .dim) (p .line .dtype) n
-readOf p (WroteRefused e) = Refused e
-
-unfoldable pub placedOf : List ℕ → Option Place → List ℕ → Vector
-placedOf s none buf = Refused 8
-placedOf s (some p) buf = readOf p (writeAnswer 0 (vectorOf s p) buf)
-
-unfoldable pub vectorIn : List ℕ → ℕ → List ℕ → Vector
-vectorIn s id buf = cond (eqb (checkOf s) 0) (placedOf s (findIn s id) buf) (Refused (checkOf s))
-
--- the buffer after it: a refusal leaves it as it was
-unfoldable pub placedBuffer : List ℕ → Option Place → List ℕ → List ℕ
-placedBuffer s none buf = buf
-placedBuffer s (some p) buf = writeBuffer 0 (vectorOf s p) buf
-
-unfoldable pub vectorBuffer : List ℕ → ℕ → List ℕ → List ℕ
-vectorBuffer s id buf = cond (eqb (checkOf s) 0) (placedBuffer s (findIn s id) buf) buf
+use Rattle.vecseg.specs.declared.Vector.the-variants.{Read, Refused}
+use Rattle.vecseg.specs.Vector.{readOf, placedBuffer, vectorBuffer, placedOf, vectorIn}
 
 -- ---- the ways out
 

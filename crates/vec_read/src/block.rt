@@ -29,7 +29,7 @@ pub fn check_block(s: &[u8], count: usize, dim: usize, dtype: u8, own: &mut [u64
     requires { ⌜ (1 ≤ count) × ((count ≤ 4096) × ((count ≤ length (now own)) × (dim ≤ 1024))) ⌝ }
     ensures { λ r. ⌜ r ≡ blockAnswer (blockOf (lineWith count dim dtype) (now (s .entry))) ⌝ }
 {
-    let columns = count * dim * vecseg::width_of(dtype as u64);
+    let columns = count * dim * crate::width::width_of(dtype as u64);
     if s.len() < columns {
         return Block::Refused(5);
     }

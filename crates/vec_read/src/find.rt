@@ -3,15 +3,11 @@ ghost use mathlib.Core.Path.{_≡_};
 ghost use Prim.Native.Nat.{_+_, _*_, _≤_};
 ghost use lib.ListN.{length, take};
 ghost use Rattle.vecseg.specs.Payload.{checkOf};
-ghost use Rattle.vecseg.specs.Find.{indexOf, findIn};
-ghost use Rattle.vec_read.specs.find.Found.{indexAnswer, foundOf};
+ghost use Rattle.octets.specs.numbers.Numbers.{indexOf, indexAnswer};
+ghost use Rattle.vecseg.specs.Find.{findIn};
+ghost use Rattle.vec_read.specs.find.Found.{foundOf};
 use answers::Wrote;
-
-// Where a number stands in a list.
-pub enum Index {
-    Place(usize),
-    Nowhere,
-}
+use octets::numbers::Index;
 
 // Where a vector stands: its block's offset, count, dim and dtype, and which vector of the block it is.
 pub enum Found {
@@ -23,21 +19,6 @@ pub enum Found {
         index: usize,
     },
     Missing,
-}
-
-// An id among the first n of a list.
-pub fn index_of(ids: &[u64], n: usize, id: u64) -> Index
-    requires { ⌜ n ≤ length (now ids) ⌝ }
-    ensures { λ r. ⌜ r ≡ indexAnswer (indexOf id (take n (now (ids .entry)))) ⌝ }
-{
-    let mut i: usize = 0;
-    while i < n {
-        if ids[i] == id {
-            return Index::Place(i);
-        }
-        i += 1;
-    }
-    Index::Nowhere
 }
 
 // The search with a list of our own for the ids of a block.
@@ -52,12 +33,12 @@ pub fn find_with(s: &[u8], id: u64, own: &mut [u64]) -> Found
         let count = octets::le::u32_at(s, line + 4) as usize;
         let dim = octets::le::u16_at(s, line + 8) as usize;
         let dtype = s[line + 10];
-        let start = offset + count * dim * vecseg::width_of(dtype as u64);
+        let start = offset + count * dim * crate::width::width_of(dtype as u64);
         let m = idmap_read::decode::decode(&s[start..], count, own);
         match m {
             Wrote::Refused(_) => return Found::Missing,
             Wrote::Length(_) => {
-                let place = index_of(own, count, id);
+                let place = octets::numbers::index_of(own, count, id);
                 match place {
                     Index::Place(index) => {
                         return Found::At {

@@ -4,20 +4,12 @@ pub mod check;
 pub mod find;
 pub mod lines;
 pub mod values;
+pub mod width;
 ghost use mathlib.Core.Path.{_≡_};
-ghost use Rattle.vec_read.specs.Vector.{vectorIn, vectorBuffer};
+ghost use Rattle.vecseg.specs.Vector.{vectorIn, vectorBuffer};
 use answers::Wrote;
+use vecseg::Vector;
 use crate::find::Found;
-
-// What it answers: dim, dtype and the length written, or the number of a refusal.
-pub enum Vector {
-    Read {
-        dim: usize,
-        dtype: u8,
-        length: usize,
-    },
-    Refused(u32),
-}
 
 // 5, 6, 7 for a payload that is not sound; 8 where no block holds the id; 9 where the buffer is short.
 pub fn read(payload: &[u8], id: u64, buf: &mut [u8]) -> Vector

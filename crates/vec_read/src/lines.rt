@@ -23,7 +23,7 @@ fn check_line(s: &[u8], at: usize) -> u32
     if dim > answers::limits::MAX_DIM {
         return 5;
     }
-    if vecseg::width_of(s[at + 10] as u64) == 0 {
+    if crate::width::width_of(s[at + 10] as u64) == 0 {
         return 6;
     }
     0

@@ -6,16 +6,10 @@ ghost use lib.Ieee.{ofBits, binary32};
 ghost use Rattle.answers.specs.Write.{writeAnswer, writeBuffer};
 ghost use Rattle.vecseg.specs.Payload.{width};
 ghost use Rattle.vecseg.specs.Find.{vectorOf};
-ghost use Rattle.vec_read.specs.values.Component.{signedOf, componentOf};
+ghost use Rattle.vecseg.specs.Component.{signedOf, componentOf};
 ghost use Rattle.vec_read.specs.values.Vector.{placeWith, Bounds};
 use answers::Wrote;
-
-// A component: a float, a signed or an unsigned small number.
-pub enum Component {
-    Float(f32),
-    Signed(i8),
-    Unsigned(u8),
-}
+use vecseg::Component;
 
 // The float of a bit pattern. A NaN's pattern gives a NaN, which the language has without its payload.
 fn float_of(bits: u32) -> f32
@@ -65,7 +59,7 @@ pub fn read_vector(
     ensures { λ r. ⌜ r ≡ writeAnswer 0 (vectorOf (now (s .entry)) (placeWith offset count dim dtype index)) (now (buf .entry)) ⌝ }
     ensures { λ _. ⌜ now (buf .exit) ≡ writeBuffer 0 (vectorOf (now (s .entry)) (placeWith offset count dim dtype index)) (now (buf .entry)) ⌝ }
 {
-    let w = vecseg::width_of(dtype as u64);
+    let w = crate::width::width_of(dtype as u64);
     let n = dim * w;
     if buf.len() < n {
         return Wrote::Refused(9);

@@ -15,7 +15,7 @@ use Rattle.octets.specs.le.Le.{leOf, leBytes}
 use Rattle.octets.specs.le.Laws.{leOf-leBytes}
 use Rattle.vecseg.specs.Payload.{Line, lineOf, blockCount, filled}
 use Rattle.vecseg.specs.Writer.{padding, directory}
-use Rattle.vec_write.specs.parts.Laid.{length-directory, length-front}
+use Rattle.vecseg.specs.Laid.{length-directory, length-front}
 
 -- the line of the block that a writer writes
 unfoldable pub lineFor : ℕ → ℕ → ℕ → ℕ → Line

@@ -20,8 +20,8 @@ use Rattle.idmap.specs.Accepted.{good}
 use Rattle.idmap.specs.Trip.{Words, read-back}
 use Rattle.vecseg.specs.Payload.{Line, lineOf, width, lineBad, firstOf, linesBad, columnsLength, filled, SoundBlock, blockEnd, blockMap, blockOf, blocksBad, blockCount, bodyBad, checkOf}
 use Rattle.vecseg.specs.Writer.{vecBad, vecBytes, blockBytes, padding}
-use Rattle.vec_write.specs.Refusal.{Accepted, accepted}
-use Rattle.vec_write.specs.parts.Laid.{length-block, length-payload}
+use Rattle.vecseg.specs.WriterLaws.{Accepted, accepted}
+use Rattle.vecseg.specs.Laid.{length-block, length-payload}
 use Rattle.vec_trip.specs.MapBytes.{map-bytes}
 use Rattle.vec_trip.specs.Shape.{lineFor, one-block, line-is, block-at, fill-is}
 

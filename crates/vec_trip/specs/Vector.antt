@@ -13,7 +13,7 @@ use Rattle.idmap.specs.Encode.{mapBytes}
 use Rattle.vecseg.specs.Payload.{width}
 use Rattle.vecseg.specs.Find.{valueAt, valuesFrom, vectorOf}
 use Rattle.vecseg.specs.Writer.{vecBad, vecBytes, blockBytes, padding}
-use Rattle.vec_write.specs.Refusal.{accepted}
+use Rattle.vecseg.specs.WriterLaws.{accepted}
 use Rattle.vec_trip.specs.Shape.{lineFor, block-at}
 
 -- ---- a vector out of columns, which hold all values of dimension 0 first

@@ -1,3 +1,2 @@
 -- The vector writer: what it refuses and accepts.
 pub mod Refusal
-pub mod parts

@@ -19,7 +19,7 @@ fn refusal(
 ) -> u32
     ensures { λ r. ⌜ r ≡ vecBad (now (ids .entry)) (now (columns .entry)) dim dtype tier encoding interval ⌝ }
 {
-    let w = vecseg::width_of(dtype) as u64;
+    let w = vec_read::width::width_of(dtype) as u64;
     if w == 0 {
         return 14;
     }

@@ -1,24 +1,23 @@
 -- Laws of a block and of the blocks of a payload: the ways out of their checks, and where a loop over the blocks stands.
 -- Assumes nothing.
-use Prim.Native.Nat.{ℕ, zero, suc, _+_, _-_, _*_, _≤_, _<_}
+use Prim.Native.Nat.{ℕ, suc, _+_, _-_, _*_, _≤_, _<_}
 use mathlib.Core.Path.{_≡_, refl, sym, ap, _∙_}
 use mathlib.Core.Bool.{Bool, true, false, cond, _&&_}
 use mathlib.Core.List.{List}
 use native.Mathlib.Omega.{arith}
-use lib.Dec.{eqb, leb, ltb}
-use lib.ListN.{length, getD, take, drop, length-drop}
+use lib.Dec.{eqb, leb}
+use lib.ListN.{length, take, drop, length-drop}
 use lib.Seq.{drop-drop}
 use borrow.Author.Tests.{le-leb, lt-leb, eq-eqb, ne-eqb, leb-true, eqb-true}
 use Rattle.octets.specs.Round.{round64}
 use Rattle.octets.specs.Zero.{allZero}
-use Rattle.octets.specs.le.Le.{leOf, leAt}
+use Rattle.octets.specs.le.Le.{leAt}
 use Rattle.crc32c.specs.Crc.{crcOf}
-use Rattle.answers.specs.declared.Wrote.{Wrote}
 use Rattle.answers.specs.declared.Wrote.the-variants.{Length, Refused}
 use Rattle.idmap.specs.Decode.{MapRead, Whole, Broken, mapOf, idsOf, mapAnswer}
 use Rattle.idmap.specs.DecodeLaws.{was-broken, was-whole}
 use Rattle.idmap.specs.Count.{whole-count}
-use Rattle.vecseg.specs.Payload.{Line, lineOf, columnsLength, filled, BlockRead, SoundBlock, BadBlock, blockEnd, blockMap, blockOf, blocksBad}
+use Rattle.vecseg.specs.Payload.{Line, lineOf, columnsLength, filled, SoundBlock, BadBlock, blockEnd, blockMap, blockOf, blocksBad}
 
 -- ---- the fill behind a place
 

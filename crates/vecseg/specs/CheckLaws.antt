@@ -1,18 +1,17 @@
 -- Laws of the whole check: its ways out, and what a sound payload says of each of its blocks.
 -- Assumes nothing.
-use Prim.Native.Nat.{ℕ, zero, suc, _+_, _-_, _*_, _≤_, _<_}
+use Prim.Native.Nat.{ℕ, zero, suc, _+_, _*_, _≤_, _<_}
 use mathlib.Core.Path.{_≡_, refl, sym, ap, _∙_}
 use mathlib.Core.Bool.{Bool, true, false, cond, _&&_}
 use mathlib.Core.List.{List}
 use native.Mathlib.Omega.{arith}
-use lib.Dec.{eqb, leb, ltb}
-use lib.ListN.{length, take, drop}
+use lib.Dec.{eqb, leb}
+use lib.ListN.{length, drop}
 use lib.Seq.{drop-drop}
 use borrow.Author.Tests.{le-leb, lt-leb, leb-true, eqb-true}
 use Rattle.octets.specs.Round.{round64}
-use Rattle.octets.specs.le.Le.{leOf}
 use Rattle.answers.specs.limits.Limits.{maxBlocks}
-use Rattle.vecseg.specs.Payload.{Line, lineOf, firstOf, linesBad, filled, BlockRead, SoundBlock, BadBlock, blockOf, blocksBad, blockCount, linesEnd, bodyBad, checkOf}
+use Rattle.vecseg.specs.Payload.{lineOf, firstOf, linesBad, filled, BlockRead, SoundBlock, BadBlock, blockOf, blocksBad, blockCount, linesEnd, bodyBad, checkOf}
 use Rattle.vecseg.specs.LineLaws.{LineGood, LinesAt, lines-first, lines-good, lines-on, first-none, first-bad, first-zero}
 use Rattle.octets.specs.Zero.{and-split}
 use Rattle.vecseg.specs.BlockLaws.{BlockGood, block-good, block-number}

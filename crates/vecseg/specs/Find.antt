@@ -1,14 +1,13 @@
 -- What is found in a payload: the block of a vector id, from the last block to the first; the vector's bytes in dimension
 -- order; and a component by its kind.
 -- Assumes nothing.
-use Prim.Native.Nat.{ℕ, zero, suc, _+_, _-_, _*_}
-use mathlib.Core.Bool.{Bool, true, false, cond}
+use Prim.Native.Nat.{ℕ, zero, suc, _+_, _*_}
 use mathlib.Core.Option.{Option, none, some}
-use mathlib.Core.List.{List, [], _∷_, _++_}
-use lib.Dec.{eqb}
-use lib.ListN.{length, getD, take, drop}
+use mathlib.Core.List.{List, [], _++_}
+use lib.ListN.{take, drop}
 use Rattle.idmap.specs.Decode.{mapOf, idsOf}
 use Rattle.vecseg.specs.Payload.{Line, lineOf, width, columnsLength, blockCount}
+use Rattle.octets.specs.numbers.Numbers.{indexOf}
 
 -- line i of a payload's directory, and the ids of its block
 unfoldable pub lineAt : List ℕ → ℕ → Line
@@ -16,11 +15,6 @@ lineAt s i = lineOf (drop (4 + 12 * i) s)
 
 unfoldable pub idsAt : List ℕ → ℕ → List ℕ
 idsAt s i = idsOf (mapOf (lineAt s i .count) (drop (lineAt s i .offset + columnsLength (lineAt s i)) s))
-
--- where a number stands in a list
-unfoldable pub indexOf : ℕ → List ℕ → Option ℕ
-indexOf x [] = none
-indexOf x (y ∷ ys) = cond (eqb y x) (some 0) (elim (indexOf x ys) [ none ↦ none | some i ↦ some (suc i) ])
 
 -- a vector's place: its block's line, and which vector of the block it is
 pub record Place : Type 0 where

@@ -1,84 +1,21 @@
 -- Laws of the search for a vector id: an index in a list, a block more, and what a found place says of a sound payload.
 -- Assumes nothing.
-use Prim.Native.Nat.{ℕ, zero, suc, _+_, _-_, _*_, _≤_, _<_}
-use mathlib.Core.Path.{_≡_, refl, sym, ap, subst, _∙_}
-use mathlib.Core.Bool.{Bool, true, false, cond}
+use Prim.Native.Nat.{ℕ, zero, suc, _+_, _*_, _≤_, _<_}
+use mathlib.Core.Path.{_≡_, refl, subst}
 use mathlib.Core.Option.{Option, none, some, Option·some-injective}
-use mathlib.Core.List.{List, [], _∷_}
+use mathlib.Core.List.{List}
 use native.Mathlib.Nat.{mul-pos}
-use native.Mathlib.Numerals.{add-one}
 use native.Mathlib.Omega.{arith}
-use lib.Dec.{eqb}
-use lib.ListN.{length, getD, take, drop, length-drop, drop-of-length-le}
-use lib.Seq.{drop-cons, drop-drop}
-use borrow.Author.Tests.{eq-eqb, ne-eqb}
-use Rattle.idmap.specs.Decode.{MapRead, Whole, Broken, mapOf, idsOf}
+use lib.ListN.{length, drop, length-drop}
+use lib.Seq.{drop-drop}
+use Rattle.idmap.specs.Decode.{Whole, mapOf, idsOf}
 use Rattle.idmap.specs.Count.{whole-count}
-use Rattle.vecseg.specs.Payload.{Line, lineOf, width, columnsLength, blockCount, checkOf}
+use Rattle.vecseg.specs.Payload.{Line, lineOf, columnsLength, blockCount, checkOf}
 use Rattle.vecseg.specs.LineLaws.{LineGood}
-use Rattle.vecseg.specs.BlockLaws.{BlockGood}
-use Rattle.vecseg.specs.CheckLaws.{Sound, sound, sound-line, sound-block}
-use Rattle.vecseg.specs.Find.{lineAt, idsAt, indexOf, Place, findUpTo, findIn}
-
--- ---- an index in a list
-
--- i more numbers stand before
-unfoldable pub shift : ℕ → Option ℕ → Option ℕ
-shift i none = none
-shift i (some j) = some (i + j)
-
--- where the loop stands: none of the first i is x
-pub record IndexAt (x : ℕ) (ids : List ℕ) (i : ℕ) : Type 0 where
-  pub few : i ≤ length ids
-  pub same : shift i (indexOf x (drop i ids)) ≡ indexOf x ids
-
-shift-zero : (o : Option ℕ) → shift 0 o ≡ o
-unfolding shift
-shift-zero none = refl
-shift-zero (some j) = let e : 0 + j ≡ j = omega arith in ap some e
-
-pub index-first : (x : ℕ) (ids : List ℕ) → IndexAt x ids 0
-index-first x ids = record { few = omega arith; same = shift-zero (indexOf x ids) }
-
-module _ (x : ℕ) (ids : List ℕ) (i : ℕ) (st : IndexAt x ids i) (h : i < length ids) where
-  pub index-here : getD ids i 0 ≡ x → some i ≡ indexOf x ids
-  unfolding indexOf shift
-  index-here e =
-      let z : i + 0 ≡ i = omega arith in
-      let one : shift i (indexOf x (drop i ids)) ≡ some i = rw (drop-cons ids i 0 h, eq-eqb (getD ids i 0) x e, z) in
-      sym one ∙ st .same
-
-  shift-suc : (o : Option ℕ) → shift i (elim o [ none ↦ none | some j ↦ some (suc j) ]) ≡ shift (suc i) o
-  unfolding shift
-  shift-suc none = refl
-  shift-suc (some j) = let e : i + suc j ≡ suc i + j = omega arith in ap some e
-
-  pub index-next : (getD ids i 0 ≡ x → ⊥) → IndexAt x ids (i + 1)
-  unfolding indexOf
-  index-next e =
-      let one : shift i (indexOf x (drop i ids)) ≡ shift (suc i) (indexOf x (drop (suc i) ids)) =
-      rw (drop-cons ids i 0 h, ne-eqb (getD ids i 0) x e) (shift-suc (indexOf x (drop (suc i) ids))) in
-      record { few = omega arith; same = rw add-one (sym one ∙ st .same) }
-
-pub index-last : (x : ℕ) (ids : List ℕ) (i : ℕ) → IndexAt x ids i → length ids ≤ i → none ≡ indexOf x ids
-unfolding indexOf shift
-index-last x ids i st h =
-    let one : shift i (indexOf x (drop i ids)) ≡ none = rw (drop-of-length-le ids {i = i} h) in
-    sym one ∙ st .same
-
--- an index that is found lies in the list, and the number stands there
-pub index-within : (x : ℕ) (ids : List ℕ) (i : ℕ) → indexOf x ids ≡ some i → i < length ids
-unfolding indexOf
-index-within x [] i e = absurd (let z : _≡_ {A = ℕ} 0 1 = cc in omega arith)
-index-within x (y ∷ ys) i e = pick (eqb y x) (indexOf x ys) (index-within x ys) e
-  where
-    pick : (t : Bool) (o : Option ℕ) → ((j : ℕ) → o ≡ some j → j < length ys) → cond t (some 0) (elim o [ none ↦ none | some j ↦ some (suc j) ]) ≡ some i → i < suc (length ys)
-    pick true o ih q = let z : 0 ≡ i = cc in omega arith
-    pick false none ih q = absurd (let z : _≡_ {A = ℕ} 0 1 = cc in omega arith)
-    pick false (some j) ih q =
-        let z : suc j ≡ i = cc in
-        let w : j < length ys = ih j refl in
-        omega arith
+use Rattle.vecseg.specs.CheckLaws.{sound, sound-line, sound-block}
+use Rattle.vecseg.specs.Find.{lineAt, idsAt, Place, findUpTo, findIn}
+use Rattle.octets.specs.numbers.Numbers.{indexOf}
+use Rattle.octets.specs.numbers.NumbersLaws.{index-within}
 
 -- ---- a block more
 

@@ -6,3 +6,7 @@ pub mod CheckLaws
 pub mod Find
 pub mod FindLaws
 pub mod Writer
+pub mod Component
+pub mod Laid
+pub mod Vector
+pub mod WriterLaws

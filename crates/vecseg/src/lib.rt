@@ -1,19 +1,18 @@
-// What reading and writing a VEC_SEG payload share.
-ghost use mathlib.Core.Path.{_≡_};
-ghost use Rattle.vecseg.specs.Payload.{width};
+// VEC_SEG payloads: definitions and laws (specs/), and the types of what is read out of one.
 
-// Bytes of a value by its dtype; 0 where the dtype is not held.
-pub fn width_of(dtype: u64) -> usize
-    ensures { λ r. ⌜ r ≡ width dtype ⌝ }
-{
-    if dtype == 0 {
-        return 4;
-    }
-    if dtype == 3 {
-        return 1;
-    }
-    if dtype == 4 {
-        return 1;
-    }
-    0
+// What reading a vector answers: dim, dtype and the length written, or the number of a refusal.
+pub enum Vector {
+    Read {
+        dim: usize,
+        dtype: u8,
+        length: usize,
+    },
+    Refused(u32),
+}
+
+// A component: a float, a signed or an unsigned small number.
+pub enum Component {
+    Float(f32),
+    Signed(i8),
+    Unsigned(u8),
 }

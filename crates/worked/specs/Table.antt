@@ -15,7 +15,7 @@ use Rattle.segment.specs.chain.Last.{scan, lastConfirmed, openOf}
 use Rattle.batch.specs.Form.{bodiesOf}
 use Rattle.appending.specs.Append.{manifestAt, appendAnswer, Appends}
 use Rattle.worked.specs.Ends.{noBodies, oneBody, empty-end, manifest-place, body-end, then-empty}
-use Rattle.manifest.specs.Opening.{opened, tried, openFound, atOpened, openAnswer}
+use Rattle.manifest.specs.Opening.{opened, tried, atOpened, foundCase, openedCase, openedAnswer, openAnswer}
 
 -- the list of document 002's delta example
 abbrev example : List ℕ
@@ -47,7 +47,7 @@ pub record Table : Type 0 where
 
 -- to unfold this is to unfold what the line names
 open-all : Unit {0}
-unfolding leb128 varintOf more decode below64 readVarint leBytes mapHead deltaOf leftAfter deltas restartOf restarts intervalOf mapBytes openAnswer atOpened openFound opened tried openOf lastConfirmed scan walk walkF
+unfolding leb128 varintOf more decode below64 readVarint leBytes mapHead deltaOf leftAfter deltas restartOf restarts intervalOf mapBytes openAnswer openedCase openedAnswer foundCase atOpened opened tried openOf lastConfirmed scan walk walkF
 open-all = tt
 
 pub table : Table

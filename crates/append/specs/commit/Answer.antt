@@ -3,17 +3,9 @@
 use Prim.Native.Nat.{ℕ}
 use mathlib.Core.Path.{_≡_}
 use mathlib.Core.Bool.{true, false, cond}
-use mathlib.Core.List.{List, [], _∷_}
-use Rattle.answers.specs.Answer.{Answer, Accepted, Refusal}
+use mathlib.Core.List.{List}
 use Rattle.batch.specs.Form.{batchHeld, bodiesOf}
 use Rattle.appending.specs.Append.{vectorsBad}
-use Rattle.append.specs.declared.commit.Appended.{Appended}
-use Rattle.append.specs.declared.commit.Appended.the-variants.{At, Refused}
-
--- document 01's number and values for each case
-unfoldable pub appendedAnswer : Appended → Answer
-appendedAnswer (At end id count) = Accepted (end ∷ id ∷ count ∷ [])
-appendedAnswer (Refused n) = Refusal n []
 
 -- 10, then 5, 6 or 7
 unfoldable pub batchNumber : List ℕ → ℕ

@@ -1,7 +1,7 @@
 -- What an append knows of the file when it writes: the bytes up to the start are the links that are kept, and their offsets stand in a list. With the
 -- bodies written behind them, all links of the new directory lie in the bytes up to the new manifest.
 -- Assumes nothing.
-use Prim.Native.Nat.{ℕ, _+_, _-_, _^_, _≤_, _<_}
+use Prim.Native.Nat.{ℕ, _+_, _^_, _≤_, _<_}
 use mathlib.Core.Path.{_≡_, refl, sym, ap, ap₂, subst, _∙_}
 use mathlib.Core.Bool.{Bool}
 use mathlib.Core.Option.{Option}
@@ -22,8 +22,8 @@ use Rattle.segment.specs.Chained.{chain, offsetsOf}
 use Rattle.segment.specs.index.Offsets.{offsets-append}
 use Rattle.manifest.specs.Payload.{confirmed, manifestPayload}
 use Rattle.manifest.specs.Opening.{opened}
-use Rattle.confirm.specs.entries.At.{Inside, payloadAt}
-use Rattle.confirm.specs.entries.Links.{Lying, lying-inside, payload-lying, chain-lying}
+use Rattle.manifest.specs.At.{Inside, payloadAt}
+use Rattle.manifest.specs.Lying.{Lying, lying-inside, payload-lying, chain-lying}
 use Rattle.batch.specs.Form.{Body}
 use Rattle.appending.specs.Append.{keptLinks, startOf, nextId, bodyLinks, bodyBytes, bodiesEnd, newLinks}
 use Rattle.appending.specs.Written.{BodyHeld, bodies-exact, bodies-length, bodyLinks-length}

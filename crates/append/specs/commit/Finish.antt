@@ -21,7 +21,7 @@ use Rattle.segment.specs.Written.{segment}
 use Rattle.segment.specs.Chained.{offsetsOf}
 use Rattle.manifest.specs.Payload.{manifestPayload}
 use Rattle.manifest.specs.Opening.{opened}
-use Rattle.confirm.specs.entries.At.{Inside, payloadAt}
+use Rattle.manifest.specs.At.{Inside, payloadAt}
 use Rattle.batch.specs.Form.{Body, lineSize, lineLength, lineHeld, linesHeld, bodyCount, bodiesAt, batchHeld, bodiesFrom, bodiesOf}
 use Rattle.batch.specs.Lines.{bodies-count, begins-inside, held-bounds}
 use Rattle.appending.specs.Append.{startOf, nextId, bodyLinks, bodyBytes, bodiesEnd, manifestAt, manifestId, newCount, newLinks}

@@ -21,9 +21,8 @@ use Rattle.segment.specs.Written.{segment}
 use Rattle.manifest.specs.Sized.{recordBy}
 use Rattle.manifest.specs.Payload.{manifestKind, manifestPayload, payloadLength}
 use Rattle.batch.specs.Form.{Body}
-use Rattle.appending.specs.Append.{keptLinks, startOf, nextId, bodyBytes, bodiesEnd, manifestAt, manifestId, newCount, newEnd, newLinks, Check, checked}
-use Rattle.append.specs.declared.commit.Appended.the-variants.{At, Refused}
-use Rattle.append.specs.commit.Answer.{appendedAnswer}
+use Rattle.appending.specs.Append.{keptLinks, startOf, nextId, bodyBytes, bodiesEnd, manifestAt, manifestId, newCount, newEnd, newLinks, Check, checked, appendedAnswer}
+use Rattle.appending.specs.declared.Appended.the-variants.{At, Refused}
 
 -- ids go on from the last one, or from 0
 unfoldable pub nextOf : Bool → ℕ → ℕ

@@ -10,7 +10,7 @@ use native.Mathlib.Omega.{arith}
 use lib.Dec.{eqb}
 use lib.ListN.{drop, getD, set}
 use borrow.Author.Tests.{eq-eqb, ne-eqb, eqb-true, eqb-false}
-use Rattle.vecseg.specs.Find.{indexOf}
+use Rattle.octets.specs.numbers.Numbers.{indexOf}
 use Rattle.manifest.specs.Payload.{manifestKind}
 use Rattle.batch.specs.Form.{member}
 use Rattle.append.specs.retire.Marks.{retirableBy, retiredBy, Rises}

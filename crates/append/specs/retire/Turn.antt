@@ -11,7 +11,7 @@ use lib.Dec.{eqb}
 use lib.ListN.{length, take, drop, getD, set, length-set, take-append-drop}
 use lib.Seq.{take-suc, take-all}
 use borrow.Author.Tests.{eq-eqb, ne-eqb}
-use Rattle.vecseg.specs.Find.{indexOf}
+use Rattle.octets.specs.numbers.Numbers.{indexOf}
 use Rattle.manifest.specs.Payload.{manifestKind}
 use Rattle.batch.specs.Form.{member}
 use Rattle.append.specs.retire.Marks.{retirableBy, retireHeldBy, retiredBy, Rises}

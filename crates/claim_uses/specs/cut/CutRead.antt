@@ -9,19 +9,17 @@ use native.Mathlib.Omega.{arith}
 use lib.ListN.{length, take, getD}
 use lib.Seq.{take-take, length-take-le}
 use Rattle.answers.specs.Answer.{Accepted, Refusal}
-use Rattle.manifest.specs.Opening.{opened}
-use Rattle.opening.specs.declared.Opened.the-variants.{At, NoManifest, Refused}
-use Rattle.opening.specs.Opened.{openedCase}
+use Rattle.manifest.specs.Opening.{opened, openedCase}
+use Rattle.manifest.specs.declared.Opened.the-variants.{At, NoManifest, Refused}
 use Rattle.opening.specs.Indexed.{opened-refused, opened-none, opened-at, opened-end}
-use Rattle.vec_read.specs.declared.Vector.{Vector}
+use Rattle.vecseg.specs.declared.Vector.{Vector}
 use Rattle.reading.specs.Answers.{vectorCase, vectorAfter}
 use Rattle.batch.specs.Form.{bodiesOf}
-use Rattle.appending.specs.Append.{startOf, manifestAt, newEnd, appendAnswer, appendBuffer, Appends}
+use Rattle.appending.specs.Append.{startOf, manifestAt, newEnd, appendAnswer, appendBuffer, Appends, appendedAnswer}
 use Rattle.appending.specs.Written.{bodiesEnd-ge}
 use Rattle.appending.specs.Buffer.{Holds, Appended, appended}
-use Rattle.append.specs.declared.commit.Appended as answer
-use Rattle.append.specs.declared.commit.Appended.the-variants as append
-use Rattle.append.specs.commit.Answer.{appendedAnswer}
+use Rattle.appending.specs.declared.Appended as answer
+use Rattle.appending.specs.declared.Appended.the-variants as append
 use Rattle.append.specs.Ways.{way-room}
 use Rattle.claim.specs.Runs.{stop}
 use Rattle.claim.specs.Reports.{lastAccepted}

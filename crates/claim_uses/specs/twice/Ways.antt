@@ -7,15 +7,13 @@ use mathlib.Core.List.{List, [], _∷_}
 use native.Mathlib.Omega.{arith}
 use lib.ListN.{length, take, getD, length-take}
 use Rattle.answers.specs.Answer.{Answer, Accepted, Refusal}
-use Rattle.manifest.specs.Opening.{opened, openAnswer}
-use Rattle.opening.specs.declared.Opened as op
-use Rattle.opening.specs.declared.Opened.the-variants as ops
-use Rattle.opening.specs.Opened.{openedAnswer, openedCase, opened-same}
+use Rattle.manifest.specs.Opening.{opened, openAnswer, openedAnswer, openedCase}
+use Rattle.manifest.specs.declared.Opened as op
+use Rattle.manifest.specs.declared.Opened.the-variants as ops
 use Rattle.batch.specs.Form.{bodiesOf}
-use Rattle.append.specs.declared.commit.Appended.{Appended}
-use Rattle.append.specs.declared.commit.Appended.the-variants as aps
-use Rattle.append.specs.commit.Answer.{appendedAnswer}
-use Rattle.appending.specs.Append.{newEnd, appendAnswer, appendBuffer, Appends}
+use Rattle.appending.specs.declared.Appended.{Appended}
+use Rattle.appending.specs.declared.Appended.the-variants as aps
+use Rattle.appending.specs.Append.{appendedAnswer, newEnd, appendAnswer, appendBuffer, Appends}
 use Rattle.appending.specs.Buffer as buffer
 use Rattle.appending.specs.Buffer.{Holds, with-length, file-is}
 use Rattle.claim.specs.Model.{Entry, newManifestEntry, acceptedModel, feed, feedAll}
@@ -122,7 +120,8 @@ module _ (old new₁ new₂ first second ids : List ℕ) (ts : ℕ) (t : ts < 2 
         ∷ length (twiceModel first second ids ts .entries)
         ∷ (length (take end₂ new₂) / 64 - m .link .offset / 64)
         ∷ [])
-    answered o e m h = ap openedAnswer (sym e) ∙ opened-same (take end₂ new₂) ∙ opens (end₁ ∷ id₁ ∷ count₁ ∷ []) (end₂ ∷ id₂ ∷ count₂ ∷ []) one two m h
+    unfolding openAnswer
+    answered o e m h = ap openedAnswer (sym e) ∙ opens (end₁ ∷ id₁ ∷ count₁ ∷ []) (end₂ ∷ id₂ ∷ count₂ ∷ []) one two m h
 
     pub way-at : (offset end id count tried : ℕ) → openedCase (take end₂ new₂) ≡ ops.At offset end id count tried → Says old first second ids ts (tws.At offset end id count) × (new₂ ≡ twiceBuffer old first second ids ts)
     unfolding Says openedAnswer

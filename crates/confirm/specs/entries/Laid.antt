@@ -17,7 +17,7 @@ use Rattle.octets.specs.le.Laws.{length-leBytes}
 use Rattle.crc32c.specs.Crc.{crcOf}
 use Rattle.manifest.specs.Sized.{entriesOf, entriesOf-more}
 use Rattle.manifest.specs.Payload.{entrySize, recordEnd, payloadLength, rootBytes, root}
-use Rattle.confirm.specs.entries.At.{Inside, entryAt, entriesAt, recordHead, fill, payloadAt, length-entriesAt, length-recordHead, length-fill, length-rootBytes, length-root, record-ge}
+use Rattle.manifest.specs.At.{Inside, entryAt, entriesAt, recordHead, fill, payloadAt, length-entriesAt, length-recordHead, length-fill, length-rootBytes, length-root, record-ge}
 
 -- ---- pieces
 

@@ -9,7 +9,7 @@ use Rattle.octets.specs.Zero.{sameBytes}
 use Rattle.answers.specs.limits.Limits.{maxEntries}
 use Rattle.segment.specs.Step.{wholeAt}
 use Rattle.manifest.specs.Payload.{manifestKind, statesIn}
-use Rattle.confirm.specs.entries.At.{payloadAt}
+use Rattle.manifest.specs.At.{payloadAt}
 
 -- 0 live, 1 retired; a manifest is never retired
 unfoldable pub stateOf : ℕ → ℕ → Bool

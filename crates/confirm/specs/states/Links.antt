@@ -16,8 +16,8 @@ use Rattle.segment.specs.Step.{wholeAt, whole-link}
 use Rattle.segment.specs.Chained.{offsetsOf, link-place}
 use Rattle.segment.specs.Search.{Placed}
 use Rattle.manifest.specs.Payload.{stateHeld, statesHeld, statesIn, manifestPayload, confirmed}
-use Rattle.confirm.specs.entries.At.{Inside, payloadAt}
-use Rattle.confirm.specs.entries.Links.{Lying, lying-inside, payload-lying, chain-lying}
+use Rattle.manifest.specs.At.{Inside, payloadAt}
+use Rattle.manifest.specs.Lying.{Lying, lying-inside, payload-lying, chain-lying}
 use Rattle.confirm.specs.states.At.{stateOf, statesHeldAt, payloadIn, statesOf, verdict, confirmedAt}
 
 -- the type that stands in a link's header

@@ -15,7 +15,7 @@ use Rattle.octets.specs.Zero.{sameBytes, same-length}
 use Rattle.segment.specs.Step.{wholeAt}
 use Rattle.manifest.specs.Sized.{recordBy, statesBy, length-statesBy, statesBy-more}
 use Rattle.manifest.specs.Payload.{entrySize, statesIn, payloadLength}
-use Rattle.confirm.specs.entries.At.{Inside, payloadAt, length-payloadAt, record-ge}
+use Rattle.manifest.specs.At.{Inside, payloadAt, length-payloadAt, record-ge}
 use Rattle.confirm.specs.states.At.{stateOf, statesHeldAt, payloadIn, statesOf, confirmedAt}
 
 -- ---- the states, read off a payload

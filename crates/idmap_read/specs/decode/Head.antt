@@ -1,21 +1,13 @@
 -- An id map by its head: the ways out, one law each, of the function that reads it.
 -- Assumes nothing.
-use Prim.Native.Nat.{ℕ, zero, suc, _+_, _*_, _≤_, _<_}
-use mathlib.Core.Path.{_≡_, refl, sym, ap, _∙_}
-use mathlib.Core.Bool.{Bool, true, false, cond, _&&_}
-use mathlib.Core.List.{List, []}
+use Prim.Native.Nat.{ℕ, _≤_, _<_}
+use mathlib.Core.Path.{_≡_, _∙_}
+use mathlib.Core.List.{List}
 use native.Mathlib.Omega.{arith}
-use lib.Dec.{eqb, leb, ltb}
-use lib.ListN.{length, getD, take}
-use lib.Seq.{length-take-le}
-use borrow.Author.Tests.{le-leb, lt-leb, lt-ltb, le-ltb, eq-eqb, ne-eqb}
-use Rattle.octets.specs.Over.{over}
+use lib.ListN.{length, getD}
+use borrow.Author.Tests.{le-leb, lt-leb, lt-ltb, eq-eqb, ne-eqb}
 use Rattle.octets.specs.le.Le.{leAt}
-use Rattle.answers.specs.limits.Limits.{maxVectors}
-use Rattle.answers.specs.declared.Wrote.{Wrote}
-use Rattle.answers.specs.declared.Wrote.the-variants.{Length, Refused}
-use Rattle.idmap.specs.Decode.{MapRead, Whole, Broken, rawMap, deltaMap, mapBody, mapOf, idsOf, mapAnswer, readAnswer, readBuffer}
-use Rattle.idmap.specs.DecodeLaws.{Filled}
+use Rattle.idmap.specs.Decode.{Broken, rawMap, deltaMap, mapBody, mapOf}
 
 -- ---- the map by its head, of a count within bounds
 module _ (count : ℕ) (s : List ℕ) (one : 1 ≤ count) (most : count ≤ 4096) where

@@ -1,10 +1,8 @@
 -- Where the loops stand that measure and write an id map, their next turns and their ends.
 -- Assumes nothing.
-use Prim.Native.Nat.{ℕ, zero, suc, _+_, _-_, _*_, _^_, _≤_, _<_}
+use Prim.Native.Nat.{ℕ, _+_, _-_, _*_, _≤_, _<_}
 use mathlib.Core.Path.{_≡_, refl, sym, ap, _∙_}
 use mathlib.Core.List.{List, [], _∷_, _++_, append-assoc, append-nil}
-use native.Mathlib.Nat.{add-zero, add-assoc}
-use native.Mathlib.Numerals.{add-one}
 use native.Mathlib.Omega.{arith}
 use lib.ListN.{length, getD, take, drop, set, length-append}
 use lib.Seq.{take-all, length-take-le}
@@ -13,7 +11,7 @@ use Rattle.octets.specs.le.Le.{leBytes}
 use Rattle.octets.specs.le.Laws.{length-leBytes}
 use Rattle.varint.specs.Varint.{varintOf}
 use Rattle.idmap.specs.Encode.{mapHead, rawIds, deltaOf, leftAfter, deltas, restartOf, restarts}
-use Rattle.idmap.specs.EncodeLaws.{IdsAt, ids-first, ids-next, length-rawIds, raw-more, deltas-cons, restarts-cons, deltas-none, restarts-none}
+use Rattle.idmap.specs.EncodeLaws.{IdsAt, ids-next, length-rawIds, raw-more, deltas-cons, restarts-cons, deltas-none, restarts-none}
 
 -- ---- raw
 

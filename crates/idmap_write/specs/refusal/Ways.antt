@@ -1,6 +1,6 @@
 -- What an id map is refused for: where the loop over the ids stands, and one law for each way out.
 -- Assumes nothing.
-use Prim.Native.Nat.{ℕ, suc, _+_, _-_, _≤_, _<_}
+use Prim.Native.Nat.{ℕ, suc, _+_, _≤_, _<_}
 use mathlib.Core.Path.{_≡_, refl, sym, _∙_}
 use mathlib.Core.Bool.{true, false, cond, _&&_}
 use mathlib.Core.List.{List}
@@ -20,7 +20,6 @@ pub record RiseAt (ids : List ℕ) (i prev : ℕ) : Type 0 where
   pub same : risesFrom (lowOf i prev) (drop i ids) ≡ risesFrom 0 ids
 
 pub rise-first : (ids : List ℕ) → RiseAt ids 0 0
-unfolding lowOf
 rise-first ids = record { few = omega arith; same = refl }
 
 module _ (ids : List ℕ) (i prev : ℕ) (st : RiseAt ids i prev) (h : i < length ids) where

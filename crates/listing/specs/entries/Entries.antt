@@ -10,8 +10,8 @@ use lib.ListN.{length, take, getD}
 use lib.Seq.{take-suc, take-length, length-take-le}
 use Rattle.octets.specs.text.Written.{Written, nothing, then}
 use Rattle.segment.specs.chain.Last.{Found}
-use Rattle.segment.specs.Header.{Link}
-use Rattle.segment.specs.index.Offsets.{noLink, linkNo}
+use Rattle.segment.specs.Header.{Link, noLink}
+use Rattle.segment.specs.index.Offsets.{linkNo}
 use Rattle.manifest.specs.Opening.{opened, states}
 use Rattle.opening.specs.Indexed.{ManifestAt, EntryAt}
 use Rattle.listing.specs.line.Listing.{stateWord, linesOf}

@@ -16,9 +16,9 @@ use Rattle.answers.specs.limits.Limits.{maxEntries}
 use Rattle.octets.specs.text.Text.{ascii, decimal}
 use Rattle.octets.specs.text.Written.{Written, same-room, then}
 use Rattle.segment.specs.index.Offsets.{most}
-use Rattle.manifest.specs.Opening.{opened, tried, at-within}
-use Rattle.opening.specs.declared.Opened.the-variants as ops
-use Rattle.opening.specs.Opened.{openedCase, foundCase}
+use Rattle.manifest.specs.Opening.{opened, tried, openedCase, foundCase}
+use Rattle.manifest.specs.OpeningLaws.{at-within}
+use Rattle.manifest.specs.declared.Opened.the-variants as ops
 use Rattle.opening.specs.Indexed.{ManifestAt, Indexed, opened-at, opened-end, opened-none, opened-refused, manifest-numbered, manifest-part, manifest-room}
 use Rattle.listing.specs.line.Listing.{maxListed, heading, refusedLine, endLine, listFound, listText}
 use Rattle.listing.specs.line.Lines.{lineAt, line-at}

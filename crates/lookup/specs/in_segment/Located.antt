@@ -16,7 +16,8 @@ use Rattle.segment.specs.Header.{Link, whole}
 use Rattle.segment.specs.Step.{wholeAt}
 use Rattle.segment.specs.index.Offsets.{linkNo}
 use Rattle.segment.specs.index.Numbered.{Numbered}
-use Rattle.manifest.specs.Opening.{opened, states, at-long, at-within}
+use Rattle.manifest.specs.Opening.{opened, states}
+use Rattle.manifest.specs.OpeningLaws.{at-long, at-within}
 use Rattle.opening.specs.Indexed.{ManifestAt, EntryAt}
 use Rattle.vecseg.specs.Payload.{vecKind, checkOf}
 use Rattle.vecseg.specs.Find.{Place, findIn}

@@ -11,15 +11,16 @@ use lib.ListN.{length, drop, getD}
 use Rattle.octets.specs.le.Le.{leAt}
 use Rattle.answers.specs.limits.Limits.{maxFile}
 use Rattle.segment.specs.chain.Last.{Found}
-use Rattle.segment.specs.Header.{Link, whole}
+use Rattle.segment.specs.Header.{Link, whole, noLink}
 use Rattle.segment.specs.Step.{wholeAt}
-use Rattle.segment.specs.index.Offsets.{noLink, linkNo}
-use Rattle.manifest.specs.Opening.{opened, states, at-long, at-within}
+use Rattle.segment.specs.index.Offsets.{linkNo}
+use Rattle.manifest.specs.Opening.{opened, states}
+use Rattle.manifest.specs.OpeningLaws.{at-long, at-within}
 use Rattle.opening.specs.Indexed.{ManifestAt, EntryAt}
 use Rattle.reading.specs.Live.{liveOf, live, withId, with-retired, with-other, with-here, with-none}
 use Rattle.reading.specs.Answers.{Handed, NotHanded, partOf, partFound, partIn}
-use Rattle.lookup.specs.declared.place.Place.the-variants.{At, Refused}
-use Rattle.lookup.specs.place.Place.{placeOf}
+use Rattle.reading.specs.declared.PayloadPlace.the-variants.{At, Refused}
+use Rattle.reading.specs.Part.{placeOf}
 
 -- the first i entries are passed
 pub record FindAt (f : List ℕ) (id count i : ℕ) : Type 0 where

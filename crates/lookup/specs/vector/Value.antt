@@ -19,18 +19,20 @@ use Rattle.vecseg.specs.Find.{Place, findIn, valueAt}
 use Rattle.vecseg.specs.FindLaws.{found-good}
 use Rattle.vec_read.specs.find.Found.{foundOf}
 use Rattle.vec_read.specs.declared.find.Found.the-variants.{At}
-use Rattle.vec_read.specs.values.Component.{componentOf, byte-wide}
-use Rattle.vec_read.specs.declared.values.Component.{Component}
+use Rattle.vecseg.specs.Component.{componentOf}
+use Rattle.vec_read.specs.values.Component.{byte-wide}
+use Rattle.vecseg.specs.declared.Component.{Component}
 use Rattle.vec_read.specs.values.Vector.{Bounds, ValueRoom, value-room}
-use Rattle.vec_read.specs.Vector.{vectorIn, vectorBuffer, placedOf, placedBuffer, get-bounds}
-use Rattle.vec_read.specs.declared.Vector.the-variants.{Refused as VectorRefused}
+use Rattle.vecseg.specs.Vector.{vectorIn, vectorBuffer, placedOf, placedBuffer}
+use Rattle.vec_read.specs.Vector.{get-bounds}
+use Rattle.vecseg.specs.declared.Vector.the-variants.{Refused as VectorRefused}
 use Rattle.reading.specs.Answers.{Hit, Held, Missing, Bad, hitIn, vectorHit, bufferHit, vectorCase, vectorAfter, Value, Stored, NoValue, valueHit, valueIn}
 use Rattle.reading.specs.Placed.{HeldIn, hit-in}
 use Rattle.lookup.specs.in_segment.Located.{locatedOf}
 use Rattle.lookup.specs.declared.in_segment.Located.the-variants.{In, Nowhere, Refused}
-use Rattle.lookup.specs.vector.Component.{componentCase, bitsCase}
-use Rattle.lookup.specs.declared.vector.Read.the-variants.{Value as KindOf, Refused as ReadRefused}
-use Rattle.lookup.specs.declared.vector.Bits.the-variants.{Of, Refused as BitsRefused}
+use Rattle.reading.specs.Component.{componentCase, bitsCase}
+use Rattle.reading.specs.declared.ComponentRead.the-variants.{Value as KindOf, Refused as ReadRefused}
+use Rattle.reading.specs.declared.ComponentBits.the-variants.{Of, Refused as BitsRefused}
 use Rattle.lookup.specs.declared.vector.ValuePlace.{ValuePlace}
 use Rattle.lookup.specs.declared.vector.ValuePlace.the-variants.{At as ValueAt, Refused as ValueRefused}
 

@@ -3,12 +3,12 @@
 use Prim.Native.Nat.{ℕ, zero, suc, _+_, _-_, _*_, _/_, _%_, _^_, _≤_, _<_}
 use mathlib.Core.Path.{_≡_, refl, sym, ap, _∙_}
 use mathlib.Core.List.{List, [], _∷_, _++_}
-use native.Mathlib.Nat.{div-one, div-div-eq-div-mul, div-lt-iff-lt-mul, pow-succ', pow-suc, mul-add, mul-assoc, add-assoc, pow-le-pow-right}
+use native.Mathlib.Nat.{div-one, div-div-eq-div-mul, div-lt-iff-lt-mul, pow-succ', pow-suc, pow-le-pow-right}
 use native.Mathlib.Numerals.{add-one}
 use native.Mathlib.Omega.{arith}
 use lib.Dec.{lit<}
-use lib.ListN.{length, take, drop, getD, set, length-append, length-take, length-drop}
-use lib.Seq.{drop-cons, take-at, length-take-le, getD-take, getD-drop}
+use lib.ListN.{length, take, drop, getD, set}
+use lib.Seq.{drop-cons, take-at, getD-drop}
 use Rattle.octets.specs.Over.{over, over-none, over-turn, over-long}
 use Rattle.octets.specs.le.Le.{leOf, leAt, leBytes, Bytes}
 

@@ -10,10 +10,11 @@ use borrow.Author.Tests.{le-leb, lt-leb}
 use Rattle.octets.specs.Parts.{part-front}
 use Rattle.octets.specs.le.Le.{leOf, leAt}
 use Rattle.segment.specs.index.Offsets.{linkNo}
-use Rattle.opening.specs.declared.directory.DirectoryEntry.{DirectoryEntry}
-use Rattle.opening.specs.declared.directory.DirectoryEntry.the-variants.{NoEntry}
+use Rattle.manifest.specs.declared.DirectoryEntry.{DirectoryEntry}
+use Rattle.manifest.specs.declared.DirectoryEntry.the-variants.{NoEntry}
 use Rattle.opening.specs.Indexed.{ManifestAt, EntryAt}
-use Rattle.opening.specs.directory.Entry.{entryIn, entryOf, entryAt, entryCase, entry-within}
+use Rattle.manifest.specs.Directory.{entryIn, entryOf, entryCase}
+use Rattle.opening.specs.directory.Entry.{entryAt, entry-within}
 
 module _ (f : List ℕ) (offset count : ℕ) (m : ManifestAt f offset count) (i : ℕ) where
   -- above the count

@@ -14,12 +14,12 @@ use Rattle.octets.specs.le.Le.{leAt, leOf}
 use Rattle.segment.specs.chain.Chain.{afters, afters-append, sizes}
 use Rattle.segment.specs.chain.Walk.{walk-at}
 use Rattle.segment.specs.declared.Step.the-variants.{Sound}
-use Rattle.segment.specs.Header.{Link, State, start, reader, linkAt, size, after, whole}
+use Rattle.segment.specs.Header.{Link, State, start, reader, linkAt, size, after, whole, noLink}
 use Rattle.segment.specs.Laws.{segment-format, linkFront, lies, afters-at}
 use Rattle.segment.specs.Step.{stateAt, stepOf, stepAt, wholeAt, whole-link}
 use Rattle.segment.specs.Chained.{chain}
 use Rattle.segment.specs.Search.{Placed}
-use Rattle.segment.specs.index.Offsets.{noLink, linkNo, Stored, stored-few, stored-at}
+use Rattle.segment.specs.index.Offsets.{linkNo, Stored, stored-few, stored-at}
 
 -- the link l with number i begins at p
 pub record Numbered (f : List ℕ) (p i : ℕ) (l : Link) : Type 0 where

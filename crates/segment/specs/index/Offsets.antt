@@ -12,7 +12,7 @@ use lib.Seq.{getD-take, split-at, take-all, take-suc-set, length-take-le}
 use Rattle.answers.specs.limits.Limits.{maxEntries}
 use Rattle.segment.specs.chain.Chain.{sizes}
 use Rattle.segment.specs.declared.Step.the-variants.{Sound, Stop}
-use Rattle.segment.specs.Header.{Link, reader}
+use Rattle.segment.specs.Header.{Link, reader, noLink}
 use Rattle.segment.specs.Laws.{size-least}
 use Rattle.segment.specs.Step.{stepAt}
 use Rattle.segment.specs.Chained.{chain, offsetsOf, link-place, ChainAt, chain-first, chain-next, chain-link, chain-stop, chain-count, step-link}
@@ -26,10 +26,6 @@ most = maxEntries + 1
 pub record Stored (f offsets : List ℕ) (n : ℕ) : Type 0 where
   pub count : n ≡ length (take most (chain f))
   pub stored : take n offsets ≡ offsetsOf (take most (chain f))
-
--- what stands past a list's end; no law depends on it
-abbrev pub noLink : Link
-noLink = record { offset = 0; id = 0; kind = 0; flags = 0; timestamp = 0; hash = []; payload = [] }
 
 -- the link of the chain with a number, where there is one
 abbrev pub linkNo : List ℕ → ℕ → Link

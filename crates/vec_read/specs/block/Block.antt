@@ -1,7 +1,7 @@
 -- What the check of a block answers, by document 01's number, and the line that a call hands over by its numbers.
 -- Assumes nothing.
 use Prim.Native.Nat.{ℕ, _+_, _-_, _*_, _≤_, _<_}
-use mathlib.Core.Path.{_≡_, refl, sym, ap, _∙_}
+use mathlib.Core.Path.{_≡_, sym, ap, _∙_}
 use mathlib.Core.Bool.{true, false}
 use mathlib.Core.List.{List}
 use native.Mathlib.Omega.{arith}
@@ -10,7 +10,6 @@ use Rattle.octets.specs.Round.{round64}
 use Rattle.octets.specs.Parts.{tail-all}
 use Rattle.octets.specs.le.Le.{leAt}
 use Rattle.crc32c.specs.Crc.{crcOf}
-use Rattle.answers.specs.declared.Wrote.{Wrote}
 use Rattle.answers.specs.declared.Wrote.the-variants.{Length as MapLength, Refused as MapRefused}
 use Rattle.idmap.specs.Decode.{MapRead, mapOf, mapAnswer}
 use Rattle.vecseg.specs.Payload.{Line, width, columnsLength, filled, BlockRead, SoundBlock, BadBlock, blockEnd, blockOf}

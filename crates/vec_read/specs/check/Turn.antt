@@ -1,14 +1,14 @@
 -- A turn of the loop over the blocks, by what the check of the block answered, of the numbers as the code reads them.
 -- Assumes nothing.
 use Prim.Native.Nat.{ℕ, _+_, _-_, _*_, _≤_, _<_}
-use mathlib.Core.Path.{_≡_, refl, sym, ap, _∙_}
+use mathlib.Core.Path.{_≡_, sym, ap, _∙_}
 use mathlib.Core.List.{List}
 use native.Mathlib.Omega.{arith}
 use lib.ListN.{length, getD, take, drop}
 use Rattle.octets.specs.Parts.{tail-all}
 use Rattle.octets.specs.le.Le.{leAt}
-use Rattle.vecseg.specs.Payload.{Line, lineOf, BlockRead, SoundBlock, BadBlock, blockOf, blocksBad, linesBad}
-use Rattle.vecseg.specs.LineLaws.{LineIs, line-is, LineGood, LinesAt, lines-good}
+use Rattle.vecseg.specs.Payload.{lineOf, blockOf, blocksBad, linesBad}
+use Rattle.vecseg.specs.LineLaws.{line-is, LinesAt, lines-good}
 use Rattle.vecseg.specs.BlockLaws.{BlocksAt, blocks-offset, blocks-bad, blocks-next}
 use Rattle.vec_read.specs.declared.block.Block.{Block}
 use Rattle.vec_read.specs.declared.block.Block.the-variants.{Sound, Refused}

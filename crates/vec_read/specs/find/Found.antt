@@ -1,6 +1,6 @@
 -- What the search for a vector id answers, by cases, and the turn of its loop.
 -- Assumes nothing.
-use Prim.Native.Nat.{ℕ, zero, suc, _+_, _-_, _*_, _≤_, _<_}
+use Prim.Native.Nat.{ℕ, suc, _+_, _-_, _*_, _≤_, _<_}
 use mathlib.Core.Path.{_≡_, refl, sym, ap, ap₂, _∙_}
 use mathlib.Core.Option.{Option, none, some}
 use mathlib.Core.List.{List}
@@ -8,40 +8,18 @@ use native.Mathlib.Omega.{arith}
 use lib.ListN.{length, getD, take, drop}
 use Rattle.octets.specs.Parts.{tail-all}
 use Rattle.octets.specs.le.Le.{leAt}
-use Rattle.answers.specs.declared.Wrote.{Wrote}
-use Rattle.answers.specs.declared.Wrote.the-variants.{Length as MapLength, Refused as MapRefused}
-use Rattle.idmap.specs.Decode.{MapRead, Whole, Broken, mapOf, idsOf, mapAnswer}
+use Rattle.answers.specs.declared.Wrote.the-variants.{Refused as MapRefused}
+use Rattle.idmap.specs.Decode.{Whole, Broken, mapOf, idsOf, mapAnswer}
 use Rattle.idmap.specs.DecodeLaws.{Filled, was-broken}
-use Rattle.vecseg.specs.Payload.{Line, lineOf, width, columnsLength, blockCount, checkOf}
-use Rattle.vecseg.specs.LineLaws.{LineIs, line-is}
-use Rattle.vecseg.specs.Find.{lineAt, idsAt, indexOf, Place, findUpTo, findIn}
+use Rattle.vecseg.specs.Payload.{width, columnsLength, blockCount, checkOf}
+use Rattle.vecseg.specs.LineLaws.{line-is}
+use Rattle.vecseg.specs.Find.{lineAt, idsAt, Place, findUpTo, findIn}
+use Rattle.octets.specs.numbers.Numbers.{indexOf, indexAnswer}
 use Rattle.vecseg.specs.FindLaws.{IdsGood, ids-good, find-here, find-on}
 use Rattle.vec_read.specs.declared.find.Found.{Found}
 use Rattle.vec_read.specs.declared.find.Found.the-variants.{At, Missing}
-use Rattle.vec_read.specs.declared.find.Index.{Index}
-use Rattle.vec_read.specs.declared.find.Index.the-variants.{Place as IndexPlace, Nowhere}
-
-unfoldable pub indexAnswer : Option ℕ → Index
-indexAnswer none = Nowhere
-indexAnswer (some i) = IndexPlace i
-
-pub was-place : (o : Option ℕ) (i : ℕ) → indexAnswer o ≡ IndexPlace i → o ≡ some i
-unfolding indexAnswer
-was-place none i e = absurd (let z : _≡_ {A = ℕ} 0 1 = cc in omega arith)
-was-place (some j) i e = let q : j ≡ i = cc in ap some q
-
-pub was-nowhere : (o : Option ℕ) → indexAnswer o ≡ Nowhere → o ≡ none
-unfolding indexAnswer
-was-nowhere none e = refl
-was-nowhere (some j) e = absurd (let z : _≡_ {A = ℕ} 0 1 = cc in omega arith)
-
-pub index-place : (o : Option ℕ) (i : ℕ) → some i ≡ o → IndexPlace i ≡ indexAnswer o
-unfolding indexAnswer
-index-place o i e = rw (sym e)
-
-pub index-nowhere : (o : Option ℕ) → none ≡ o → Nowhere ≡ indexAnswer o
-unfolding indexAnswer
-index-nowhere o e = rw (sym e)
+use Rattle.octets.specs.declared.numbers.Index.the-variants.{Place as IndexPlace, Nowhere}
+use Rattle.octets.specs.numbers.NumbersLaws.{was-nowhere, was-place}
 
 -- where a vector stands: its block's place in the payload, count, dim and dtype, and which vector of the block it is
 unfoldable pub foundOf : Option Place → Found

@@ -1,21 +1,21 @@
 -- Facts of a byte, computed at each of its values by one test: of signed numbers. And of a NaN's pattern.
 -- Assumes nothing.
-use Prim.Native.Nat.{ℕ, zero, suc, _+_, _-_, _*_, _%_, _^_, _<_, _≤_}
+use Prim.Native.Nat.{ℕ, zero, suc, _+_, _-_, _%_, _^_, _<_, _≤_}
 use mathlib.Core.Path.{_≡_, refl, sym, ap, subst, _∙_}
-use mathlib.Core.Bool.{Bool, true, false, not, cond}
+use mathlib.Core.Bool.{Bool, true, false, not}
 use mathlib.Core.List.{List, [], _∷_}
 use native.Mathlib.Nat.{add-zero, zero-add, add-suc, suc-add, le-of-suc-le-suc, not-suc-le-zero}
 use lib.ListN.{getD}
 use native.Mathlib.Omega.{arith}
 use lib.Dec.{T, ltb}
-use lib.IntN.{ℤ, pos, negsuc, _-ℤ_}
+use lib.IntN.{ℤ, pos, _-ℤ_}
 use lib.Signed.{mag}
 use lib.Ieee.{Float, nan, inf, fin, binary32, ofBits, nanBits, isNan}
 use lib.Ieee.Bits.{nanBits-is, nanBits-above}
 use borrow.Author.Tests.{ltb-true, lt-ltb, le-ltb}
 use mir.Syntax.{w8, w16}
 use mir.Val.{toZ, ofZ, SFits}
-use Rattle.vec_read.specs.values.Component.{signedOf}
+use Rattle.vecseg.specs.Component.{signedOf}
 
 -- the n values of f from i on, and that two functions with one table are equal below its length
 abbrev tabulate : {A : Type 0} → (ℕ → A) → ℕ → ℕ → List A

@@ -1,6 +1,6 @@
 -- A component as one of three kinds, by the bytes of its value: of dtype 0 a float, of 3 a signed number, else an unsigned one.
 -- Assumes nothing.
-use Prim.Native.Nat.{ℕ, _-_, _+_, _*_, _<_}
+use Prim.Native.Nat.{ℕ, _<_}
 use mathlib.Core.Path.{_≡_, refl, sym, ap, _∙_}
 use mathlib.Core.List.{List}
 use mathlib.Core.Bool.{Bool, true, false, cond, _||_}
@@ -8,23 +8,13 @@ use native.Mathlib.Nat.{add-zero}
 use native.Mathlib.Omega.{arith}
 use borrow.Author.Tests.{ne-eqb, eqb-true}
 use lib.Seq.{getD-take, getD-drop}
-use lib.Dec.{ltb, eqb}
-use lib.IntN.{ℤ, pos, negsuc}
+use lib.Dec.{eqb}
 use lib.Ieee.{ofBits, binary32}
 use lib.ListN.{getD, take, drop}
-use Rattle.octets.specs.le.Le.{leOf, leAt}
+use Rattle.octets.specs.le.Le.{leAt}
 use Rattle.vecseg.specs.Payload.{width}
-use Rattle.vec_read.specs.declared.values.Component.{Component}
-use Rattle.vec_read.specs.declared.values.Component.the-variants.{Float, Signed, Unsigned}
-
--- a byte in two's complement
-abbrev pub signedOf : ℕ → ℤ
-signedOf b = cond (ltb b 128) (pos b) (negsuc (255 - b))
-
--- the value of some bytes. The float is that of its four bytes; of a NaN's pattern the language has one NaN, without payload.
-unfoldable pub componentOf : ℕ → List ℕ → Component
-componentOf dtype bytes =
-    cond (eqb dtype 0) (Float (ofBits binary32 (leOf bytes))) (cond (eqb dtype 3) (Signed (signedOf (getD bytes 0 0))) (Unsigned (getD bytes 0 0)))
+use Rattle.vecseg.specs.declared.Component.the-variants.{Float, Signed, Unsigned}
+use Rattle.vecseg.specs.Component.{componentOf, signedOf}
 
 -- ---- the three ways out, of a value's bytes at a place
 

@@ -2,17 +2,16 @@
 -- Assumes nothing.
 use Prim.Native.Nat.{ℕ, zero, suc, _+_, _-_, _*_, _≤_, _<_}
 use mathlib.Core.Path.{_≡_, refl, sym, ap, _∙_}
-use mathlib.Core.List.{List, [], _∷_, _++_, append-assoc, append-nil}
+use mathlib.Core.List.{List, _++_, append-assoc, append-nil}
 use native.Mathlib.Nat.{mul-le-mul, mul-comm, suc-mul, zero-add}
 use native.Mathlib.Numerals.{add-one}
 use native.Mathlib.Omega.{arith}
-use lib.ListN.{length, getD, take, drop, length-append, length-drop}
-use lib.Seq.{length-take-le, getD-take, getD-drop}
+use lib.ListN.{length, take, drop, length-append, length-drop}
+use lib.Seq.{length-take-le}
 use borrow.Rule.Slice.PartMut.{putMid}
 use Rattle.octets.specs.Over.{over, over-none, over-then, length-over}
 use Rattle.octets.specs.Parts.{back}
-use Rattle.vecseg.specs.Payload.{Line, width, columnsLength}
-use Rattle.vecseg.specs.LineLaws.{width-most}
+use Rattle.vecseg.specs.Payload.{width}
 use Rattle.vecseg.specs.Find.{Place, valueAt, valuesFrom, vectorOf}
 
 -- the place that a call hands over by its numbers; the tier plays no part

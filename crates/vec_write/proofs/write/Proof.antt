@@ -7,8 +7,8 @@ use lib.ListN.{length}
 use Rattle.answers.specs.Write.{write-bad, write-short, write-done}
 use Rattle.octets.specs.Round.{round64-lt}
 use Rattle.vecseg.specs.Writer.{vecBytes}
-use Rattle.vec_write.specs.Refusal.{Accepted, accepted, held-small}
-use Rattle.vec_write.specs.parts.Laid.{payload-size, payload-laid}
+use Rattle.vecseg.specs.WriterLaws.{Accepted, accepted, held-small}
+use Rattle.vecseg.specs.Laid.{payload-size, payload-laid}
 use borrow.Author.Needs.{needs}
 use Rattle.vec_write.proofs.write.Statement.{statement}
 use Rattle.vec_write.proofs.write.Tie as tie

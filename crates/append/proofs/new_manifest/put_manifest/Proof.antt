@@ -7,7 +7,7 @@ use lib.ListN.{length, take, drop, length-take, length-drop}
 use lib.Seq.{length-take-le}
 use Rattle.octets.specs.Round.{round64}
 use Rattle.manifest.specs.Payload.{payloadLength}
-use Rattle.confirm.specs.entries.At.{payloadAt, length-payloadAt}
+use Rattle.manifest.specs.At.{payloadAt, length-payloadAt}
 use Rattle.append.specs.bodies.Laid.{payload-most, payload-front, manifest-laid}
 use borrow.Author.Needs.{needs}
 use Rattle.append.proofs.new_manifest.put_manifest.Statement.{statement}

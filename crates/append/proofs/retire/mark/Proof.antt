@@ -6,8 +6,7 @@ use mathlib.Core.Bool.{false≢true}
 use native.Mathlib.Omega.{arith}
 use lib.ListN.{length}
 use lib.Seq.{take-length}
-use Rattle.vecseg.specs.FindLaws.{index-within}
-use Rattle.vec_read.specs.find.Found.{was-place, was-nowhere}
+use Rattle.octets.specs.numbers.NumbersLaws.{index-within, was-place, was-nowhere}
 use Rattle.append.specs.retire.Turn.{MarkAt, mark-first, mark-last, mark-states, mark-nowhere, mark-manifest, mark-retired, mark-next}
 use borrow.Author.Needs.{needs}
 use Rattle.append.proofs.retire.mark.Statement.{statement}

@@ -37,14 +37,14 @@ add-u64-at c = search needs
 u64-at-requires : tie.Need-u64-at-requires Inv-loop μ-loop
 u64-at-requires c κs = search needs
 
-rises-requires : tie.Need-rises-requires Inv-loop μ-loop
-rises-requires c κs = search needs
+follows-requires : tie.Need-follows-requires Inv-loop μ-loop
+follows-requires c κs = search needs
 
 same-length : tie.Need-same-length Inv-loop μ-loop
 same-length c = search needs
 
 returns-2 : tie.Need-returns-2 Inv-loop μ-loop
-returns-2 c = broken _ _ (raw-room _ _ (omega arith) ∙ raw-stop _ _ _ _ _ (c .before .before .before .before .loop .inv .0) (omega arith) _ (c .before .before .u64-at .ensures) (sym (c .before .rises .ensures) ∙ not-true _ (c .if2 .taken)))
+returns-2 c = broken _ _ (raw-room _ _ (omega arith) ∙ raw-stop _ _ _ _ _ (c .before .before .before .before .loop .inv .0) (omega arith) _ (c .before .before .u64-at .ensures) (sym (c .before .follows .ensures) ∙ not-true _ (c .if2 .taken)))
 
 mul-ids : tie.Need-mul-ids Inv-loop μ-loop
 mul-ids c = search needs
@@ -59,7 +59,7 @@ loop-less : tie.Need-loop-less Inv-loop μ-loop
 loop-less c = search needs
 
 loop-again : tie.Need-loop-again Inv-loop μ-loop
-loop-again c = (raw-next _ _ _ _ _ (c .before .before .before .before .loop .inv .0) (omega arith) _ (c .before .before .u64-at .ensures) (sym (c .before .rises .ensures) ∙ not-false _ (c .if2 .left)) (omega arith), search needs)
+loop-again c = (raw-next _ _ _ _ _ (c .before .before .before .before .loop .inv .0) (omega arith) _ (c .before .before .u64-at .ensures) (sym (c .before .follows .ensures) ∙ not-false _ (c .if2 .left)) (omega arith), search needs)
 
 same-length-2 : tie.Need-same-length-2 Inv-loop μ-loop
 same-length-2 c = search needs
@@ -80,7 +80,7 @@ decode-raw-spec =
     mul-u64-at
     add-u64-at
     u64-at-requires
-    rises-requires
+    follows-requires
     same-length
     returns-2
     mul-ids

@@ -17,14 +17,14 @@ cast-if2 c = search needs
 returns : tie.Need-returns
 returns c = next-place _ _ _ _ _ (c .before .before .if1 .taken) (λ e. c .if2 .taken (c .before .u32-at .ensures ∙ e))
 
-rises-requires : tie.Need-rises-requires
-rises-requires c κs = search needs
+follows-requires : tie.Need-follows-requires
+follows-requires c κs = search needs
 
 returns-2 : tie.Need-returns-2
-returns-2 c = next-start _ _ _ _ _ (c .before .before .before .before .if1 .taken) (sym (c .before .before .before .u32-at .ensures) ∙ c .before .before .if2 .left) (sym (c .before .rises .ensures) ∙ c .if3 .taken)
+returns-2 c = next-start _ _ _ _ _ (c .before .before .before .before .if1 .taken) (sym (c .before .before .before .u32-at .ensures) ∙ c .before .before .if2 .left) (sym (c .before .follows .ensures) ∙ c .if3 .taken)
 
 returns-3 : tie.Need-returns-3
-returns-3 c = next-low _ _ _ _ _ (c .before .before .before .before .if1 .taken) (sym (c .before .before .before .u32-at .ensures) ∙ c .before .before .if2 .left) (sym (c .before .rises .ensures) ∙ c .if3 .left)
+returns-3 c = next-low _ _ _ _ _ (c .before .before .before .before .if1 .taken) (sym (c .before .before .before .u32-at .ensures) ∙ c .before .before .if2 .left) (sym (c .before .follows .ensures) ∙ c .if3 .left)
 
 returns-4 : tie.Need-returns-4
 returns-4 c = next-none _ _ _ _ _ (omega arith) (c .if4 .taken)
@@ -54,7 +54,7 @@ next-id-spec =
     u32-at-requires
     cast-if2
     returns
-    rises-requires
+    follows-requires
     returns-2
     returns-3
     returns-4

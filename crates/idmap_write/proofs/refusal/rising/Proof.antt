@@ -25,11 +25,11 @@ mul-x c = search needs
 shared-slice-read-x : tie.Need-shared-slice-read-x Inv-loop μ-loop
 shared-slice-read-x c = search needs
 
-rises-requires : tie.Need-rises-requires Inv-loop μ-loop
-rises-requires c κs = search needs
+follows-requires : tie.Need-follows-requires Inv-loop μ-loop
+follows-requires c κs = search needs
 
 returns : tie.Need-returns Inv-loop μ-loop
-returns c = rise-stop _ _ _ (c .before .before .before .before .loop .inv) (omega arith) (sym (c .before .rises .ensures) ∙ not-true _ (c .if1 .taken))
+returns c = rise-stop _ _ _ (c .before .before .before .before .loop .inv) (omega arith) (sym (c .before .follows .ensures) ∙ not-true _ (c .if1 .taken))
 
 add-i : tie.Need-add-i Inv-loop μ-loop
 add-i c = search needs
@@ -38,7 +38,7 @@ loop-less : tie.Need-loop-less Inv-loop μ-loop
 loop-less c = search needs
 
 loop-again : tie.Need-loop-again Inv-loop μ-loop
-loop-again c = rise-next _ _ _ (c .before .before .before .before .loop .inv) (omega arith) (sym (c .before .rises .ensures) ∙ not-false _ (c .if1 .left))
+loop-again c = rise-next _ _ _ (c .before .before .before .before .loop .inv) (omega arith) (sym (c .before .follows .ensures) ∙ not-false _ (c .if1 .left))
 
 returns-2 : tie.Need-returns-2 Inv-loop μ-loop
 returns-2 c = rise-last _ _ _ (c .before .loop .inv) (omega arith)
@@ -52,7 +52,7 @@ rising-spec =
     loop-holds
     mul-x
     shared-slice-read-x
-    rises-requires
+    follows-requires
     returns
     add-i
     loop-less

@@ -1,6 +1,6 @@
 -- `file_payload::number_of` meets its contract.
 -- Assumes nothing.
-use Rattle.lookup.specs.place.Place.{number-at, number-not}
+use Rattle.reading.specs.PartLaws.{number-at, number-not}
 use borrow.Author.Needs.{needs}
 use Rattle.lookup.proofs.payload.number_of.Statement.{statement}
 use Rattle.lookup.proofs.payload.number_of.Tie as tie

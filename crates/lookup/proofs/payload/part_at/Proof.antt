@@ -5,7 +5,7 @@ use mathlib.Core.Path.{refl, ap}
 use native.Mathlib.Omega.{arith}
 use native.Mathlib.Nat.{add-comm, add-sub-cancel-left}
 use lib.ListN.{take, drop}
-use Rattle.lookup.specs.place.Place.{hands-at, hands-outside, hands-nothing}
+use Rattle.reading.specs.PartLaws.{hands-at, hands-outside, hands-nothing}
 use borrow.Author.Needs.{needs}
 use Rattle.lookup.proofs.payload.part_at.Statement.{statement}
 use Rattle.lookup.proofs.payload.part_at.Tie as tie

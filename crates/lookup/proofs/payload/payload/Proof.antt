@@ -40,12 +40,13 @@ use denote.Triple.Table.{entered, cited}
 use denote.Triple.Walked.{says, Stays, stay-none, stay-none-slice, walkOf, goes-none, goes-none-slice, Walks, ends-at, walked, walk-meets}
 use denote.Exit.{yes}
 use Rattle.answers.specs.Answer.{number}
-use Rattle.reading.specs.Answers.{partIn, partAnswer}
-use Rattle.lookup.specs.place.Place.{placeOf, placeNumber, Hands, HandsPart, number-same, hands-part}
-use Rattle.lookup.specs.declared.place.Place.{Place}
+use Rattle.reading.specs.Answers.{partIn}
+use Rattle.reading.specs.Part.{placeOf, placeAnswer, HandsPart}
+use Rattle.reading.specs.PartLaws.{placeNumber, Hands, number-same, hands-part}
+use Rattle.reading.specs.declared.PayloadPlace.{PayloadPlace}
 use Rattle.lookup.specs.declared.payload.HandedPart.{HandedPart}
-use Rattle.lookup.proofs.place.Place as P
-use Rattle.lookup.proofs.place.Place.Laws as P′
+use Rattle.reading.proofs.PayloadPlace as P
+use Rattle.reading.proofs.PayloadPlace.Laws as P′
 use Rattle.lookup.proofs.payload.HandedPart as T
 use Rattle.lookup.proofs.payload.HandedPart.Laws as T′
 use Rattle.lookup.proofs.place.payload_place as place
@@ -116,18 +117,18 @@ module _ {M : Type 1} (𝓤 : URA M) (H : Heap 𝓤) (A : Atoms 𝓤) (W : Given
       nothing ! $ owned ! u64 (Is u64) (uint-makes 𝓤 H A W w64) n _ (refl, n-fits) $ fjoin ! $ move ! (1 ∷ 0 ∷ []) $ fjoin ! $
       move ! (2 ∷ 0 ∷ []) $ use2 W (raw (Located 𝓤 H A mem run .pre to-place)) asks-place $ frame ! $ done !
 
-  place-said : (d : Place) → ent 𝓤 (ensured 𝓤 H A place.ended (place.clauses 𝓤 H A mem run) (κ, tt) (s, (n, tt)) tt d) (fact 𝓤 (d ≡ placeOf (partIn (now s) n)))
+  place-said : (d : PayloadPlace) → ent 𝓤 (ensured 𝓤 H A place.ended (place.clauses 𝓤 H A mem run) (κ, tt) (s, (n, tt)) tt d) (fact 𝓤 (d ≡ placeOf (partIn (now s) n)))
   place-said d = exE 𝓤 _ (λ ws. snd∗ 𝓤 (sem 𝓤 H A (lasts place.ended (κ, tt) (s, (n, tt)) ws)) (fact 𝓤 (d ≡ placeOf (partIn (now s) n))))
 
   -- what is known of the other two's results, at the place d
-  number-said : (d : Place) (m : ℕ) → ent 𝓤 (ensured 𝓤 H A num.ended (num.clauses 𝓤 H A mem run) tt (d, tt) tt m) (fact 𝓤 (m ≡ placeNumber d))
+  number-said : (d : PayloadPlace) (m : ℕ) → ent 𝓤 (ensured 𝓤 H A num.ended (num.clauses 𝓤 H A mem run) tt (d, tt) tt m) (fact 𝓤 (m ≡ placeNumber d))
   number-said d m = exE 𝓤 _ (λ ws. snd∗ 𝓤 (sem 𝓤 H A (lasts num.ended tt (d, tt) ws)) (fact 𝓤 (m ≡ placeNumber d)))
 
-  part-said : (d : Place) (r : RefT (List ℕ)) → ent 𝓤 (ensured 𝓤 H A part.ended (part.clauses 𝓤 H A mem run) (κ, tt) (s, (d, tt)) tt r) (fact 𝓤 (Hands r s d))
+  part-said : (d : PayloadPlace) (r : RefT (List ℕ)) → ent 𝓤 (ensured 𝓤 H A part.ended (part.clauses 𝓤 H A mem run) (κ, tt) (s, (d, tt)) tt r) (fact 𝓤 (Hands r s d))
   part-said d r = exE 𝓤 _ (λ ws. snd∗ 𝓤 (sem 𝓤 H A (lasts part.ended (κ, tt) (s, (d, tt)) ws)) (fact 𝓤 (Hands r s d)))
 
   -- what the other two are passed and ask, where u is the place's machine value
-  module _ (d : Place) (u : Val) where
+  module _ (d : PayloadPlace) (u : Val) where
     abbrev to-number : Numbered 𝓤 H A mem run .Ghost
     to-number = ((tt, tt, tt, (d, tt), (u ∷ [], tt)), tt)
 
@@ -149,7 +150,7 @@ module _ {M : Type 1} (𝓤 : URA M) (H : Heap 𝓤) (A : Atoms 𝓤) (W : Given
   abbrev made : ℕ → RefT (List ℕ) → HandedPart
   made m r = record { number = m; part = r }
 
-  exits : (m : ℕ) (r : RefT (List ℕ)) → m < 2 ^ 32 → m ≡ number (partAnswer (partIn (now s) n)) → HandsPart r s (partIn (now s) n)
+  exits : (m : ℕ) (r : RefT (List ℕ)) → m < 2 ^ 32 → m ≡ number (placeAnswer (placeOf (partIn (now s) n))) → HandsPart r s (partIn (now s) n)
       → ent 𝓤 (⋆ 𝓤 H A (‵ (R .own r (val r ∷ [])) ∷ (‵ (flft κ q) ⊛ ‵ ftrue) ∷ ‵ Own ∷ [])) (Post (T′.lowered (made m r)))
   exits m r ok e h =
       qed W (‵ (R .own r (val r ∷ [])) ∷ (‵ (flft κ q) ⊛ ‵ ftrue) ∷ ‵ Own ∷ []) ∵
@@ -167,7 +168,7 @@ module _ {M : Type 1} (𝓤 : URA M) (H : Heap 𝓤) (A : Atoms 𝓤) (W : Given
         -- [room for _5; …; room for _4; …; room for _3; …; _2; …; _1; …; room for _0; …; the token; what the parameters own]
         move ! (13 ∷ []) $ fsplit ! $ move ! (1 ∷ []) $ drop ! $ move ! (13 ∷ 0 ∷ []) $ use2 W (raw (Located 𝓤 H A mem run .pre to-place) ⊛ ‵ Own) goes-place $ split ! $
         calls-at ! fm (Located 𝓤 H A mem run) known-place to-place (and-then ! (load ! (from ! (stop !)) (look ! 10 refl)) (and-then ! (load ! (from ! (stop !)) (look ! 8 refl)) (no-more !))) (λ u.
-        use1 W (later (some (λ (d : Place). ((‵ (flft κ q) ⊛ ‵ ftrue) ⊛ ‵ (P.the-row .own d (u ∷ []))) ⊛ raw (ensured 𝓤 H A place.ended (place.clauses 𝓤 H A mem run) (κ, tt) (s, (n, tt)) tt d)))) (id⊢ 𝓤 _) $ await ! tt $ pick ! (λ d.
+        use1 W (later (some (λ (d : PayloadPlace). ((‵ (flft κ q) ⊛ ‵ ftrue) ⊛ ‵ (P.the-row .own d (u ∷ []))) ⊛ raw (ensured 𝓤 H A place.ended (place.clauses 𝓤 H A mem run) (κ, tt) (s, (n, tt)) tt d)))) (id⊢ 𝓤 _) $ await ! tt $ pick ! (λ d.
         split ! $ move ! (1 ∷ []) $ use1 W (raw (fact 𝓤 (d ≡ placeOf (partIn (now s) n)))) (place-said d) $ heard ! (d ≡ placeOf (partIn (now s) n)) (λ at-place. split ! $ move ! (1 ∷ []) $
         -- [the place's facts; the token; what s owns; room for _5; …; room for _4; …; room for _3; …; _2; …; _1; …; room for _0; …]
         peeks ! P.the-row (Is P.the-row) (shows 𝓤 H A P.the-row) d (u ∷ []) (λ is.
@@ -192,7 +193,7 @@ module _ {M : Type 1} (𝓤 : URA M) (H : Heap 𝓤) (A : Atoms 𝓤) (W : Given
         (init ! 13 refl (tt, (record { fits = ok .1 }, (shr-slice-lawful 𝓤 H A W (named 0) κ u8 .typed r (val r ∷ []) (subst (λ (ws : List Val). Is R r ws) (shr-slice-tells (named 0) κ u8 r (u′ ∷ []) is′) is′) .0 .1, tt)))) $
         returns ! (look ! 13 refl) $ forget ! 3 refl $ forget ! 5 refl $ forget ! 7 refl $ forget ! 9 refl $ forget ! 11 refl $ forget ! 13 refl $
         move ! (13 ∷ 14 ∷ []) $ free1 ! $ move ! (11 ∷ 12 ∷ []) $ free1 ! $ move ! (9 ∷ 10 ∷ []) $ free1 ! $ move ! (7 ∷ 8 ∷ []) $ free1 ! $ move ! (5 ∷ 6 ∷ []) $ free1 ! $ move ! (3 ∷ 4 ∷ []) $ free1 ! $ free0 ! $
-        by ! (exits m r (ok .1) (e ∙ ap placeNumber at-place ∙ number-same (partIn (now s) n)) (hands-part r s n (subst (Hands r s) at-place h)))))))))))))))))))))
+        by ! (exits m r (ok .1) (e ∙ ap placeNumber at-place ∙ number-same (placeOf (partIn (now s) n))) (hands-part r s n (subst (Hands r s) at-place h)))))))))))))))))))))
 
 module _ {M : Type 1} (𝓤 : URA M) (H : Heap 𝓤) (A : Atoms 𝓤) (W : Given 𝓤 H A) (mem : Memory → SProp 𝓤) (run : Routine → Fun 𝓤) where
   payload-walks : (C : Calls 𝓤 H) (Λ : Loops 𝓤 H) → FmC 𝓤 H (W .laws) C → Triple 𝓤 (C #place) (Located 𝓤 H A mem run) → Triple 𝓤 (C #num) (Numbered 𝓤 H A mem run) → Triple 𝓤 (C #part) (Parted 𝓤 H A mem run)

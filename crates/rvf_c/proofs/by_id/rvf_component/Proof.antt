@@ -3,7 +3,7 @@
 use mathlib.Core.Path.{_≡_, sym, ap, _∙_}
 use mathlib.Core.List.{[]}
 use Rattle.answers.specs.Out.{out-refused, out-accepted}
-use Rattle.lookup.specs.vector.Component.{bitsAnswer, bits-same}
+use Rattle.reading.specs.Component.{bitsAnswer}
 use lib.Dec.{lit<}
 use borrow.Author.Needs.{needs}
 use Rattle.rvf_c.proofs.by_id.rvf_component.Statement.{statement}
@@ -32,11 +32,11 @@ element-write-out-2 c = lit< tt
 
 returns : tie.Need-returns
 unfolding bitsAnswer
-returns c = out-refused _ _ [] _ (sym (bits-same _) ∙ ap bitsAnswer (sym (c .before .before .before .component-bits .ensures) ∙ c .before .b .given .1))
+returns c = out-refused _ _ [] _ (ap bitsAnswer (sym (c .before .before .before .component-bits .ensures) ∙ c .before .b .given .1))
 
 returns-2 : tie.Need-returns-2
 unfolding bitsAnswer
-returns-2 c = out-accepted _ _ _ (sym (bits-same _) ∙ ap bitsAnswer (sym (c .before .before .before .component-bits .ensures) ∙ c .before .b2 .given .1))
+returns-2 c = out-accepted _ _ _ (ap bitsAnswer (sym (c .before .before .before .component-bits .ensures) ∙ c .before .b2 .given .1))
 
 pub rvf-component-spec : {M : Type 1} → statement M
 rvf-component-spec =

@@ -3,7 +3,7 @@
 use mathlib.Core.Path.{_≡_, sym, ap, _∙_}
 use mathlib.Core.List.{[]}
 use Rattle.answers.specs.Out.{out-refused, out-accepted}
-use Rattle.lookup.specs.place.Place.{placeAnswer, place-same}
+use Rattle.reading.specs.Part.{placeAnswer}
 use lib.Dec.{lit<}
 use borrow.Author.Needs.{needs}
 use Rattle.rvf_c.proofs.by_id.rvf_payload.Statement.{statement}
@@ -26,11 +26,11 @@ element-write-out-2 c = lit< tt
 
 returns : tie.Need-returns
 unfolding placeAnswer
-returns c = out-refused _ _ [] _ (sym (place-same _) ∙ ap placeAnswer (sym (c .before .before .before .payload-place .ensures) ∙ c .before .p .given .1))
+returns c = out-refused _ _ [] _ (ap placeAnswer (sym (c .before .before .before .payload-place .ensures) ∙ c .before .p .given .1))
 
 returns-2 : tie.Need-returns-2
 unfolding placeAnswer
-returns-2 c = out-accepted _ _ _ (sym (place-same _) ∙ ap placeAnswer (sym (c .before .before .before .payload-place .ensures) ∙ c .before .p2 .given .1))
+returns-2 c = out-accepted _ _ _ (ap placeAnswer (sym (c .before .before .before .payload-place .ensures) ∙ c .before .p2 .given .1))
 
 pub rvf-payload-spec : {M : Type 1} → statement M
 rvf-payload-spec =

@@ -1,9 +1,7 @@
 -- `rvf_entry` meets its contract: what `directory::entry` answers, by number and values.
 -- Assumes nothing.
-use mathlib.Core.Path.{_≡_, sym, ap, _∙_}
-use mathlib.Core.List.{[]}
-use Rattle.answers.specs.Out.{out-refused, out-accepted}
-use Rattle.opening.specs.directory.Entry.{entryCaseAnswer, entry-same}
+use mathlib.Core.Path.{_≡_, sym, _∙_}
+use Rattle.manifest.specs.EntryOut.{out-entry, out-no-entry, out-refused}
 use lib.Dec.{lit<}
 use borrow.Author.Needs.{needs}
 use Rattle.rvf_c.proofs.files.rvf_entry.Statement.{statement}
@@ -55,16 +53,13 @@ element-write-out-8 : tie.Need-element-write-out-8
 element-write-out-8 c = lit< tt
 
 returns : tie.Need-returns
-unfolding entryCaseAnswer
-returns c = out-refused _ _ [] _ (sym (entry-same _ _) ∙ ap entryCaseAnswer (sym (c .before .before .before .entry .ensures) ∙ c .before .e .given .1))
+returns c = out-refused _ _ _ _ (sym (c .before .e .given .1) ∙ c .before .before .before .entry .ensures)
 
 returns-2 : tie.Need-returns-2
-unfolding entryCaseAnswer
-returns-2 c = out-refused _ _ [] _ (sym (entry-same _ _) ∙ ap entryCaseAnswer (sym (c .before .before .entry .ensures) ∙ c .enum-told .given .1))
+returns-2 c = out-no-entry _ _ _ (sym (c .enum-told .given .1) ∙ c .before .before .entry .ensures)
 
 returns-3 : tie.Need-returns-3
-unfolding entryCaseAnswer
-returns-3 c = out-accepted _ _ _ (sym (entry-same _ _) ∙ ap entryCaseAnswer (sym (c .before .before .before .entry .ensures) ∙ c .before .e2 .given .1))
+returns-3 c = out-entry _ _ _ _ _ _ _ _ _ _ _ (sym (c .before .e2 .given .1) ∙ c .before .before .before .entry .ensures)
 
 pub rvf-entry-spec : {M : Type 1} → statement M
 rvf-entry-spec =

@@ -1,7 +1,7 @@
 -- `rvf_open` meets its contract: what `opening::open` answers, by number and values.
 -- Assumes nothing.
 use mathlib.Core.Path.{_≡_, sym, _∙_}
-use Rattle.opening.specs.Opened.{out-opened, out-none, out-refused}
+use Rattle.manifest.specs.OpenOut.{out-opened, out-none, out-refused}
 use lib.Dec.{lit<}
 use borrow.Author.Needs.{needs}
 use Rattle.rvf_c.proofs.files.rvf_open.Statement.{statement}

@@ -3,7 +3,7 @@
 use mathlib.Core.Path.{_≡_, sym, ap, _∙_}
 use mathlib.Core.List.{[]}
 use Rattle.answers.specs.Out.{out-refused, out-accepted}
-use Rattle.vec_read.specs.Vector.{vectorAnswer}
+use Rattle.vecseg.specs.Vector.{vectorAnswer}
 use lib.Dec.{lit<}
 use borrow.Author.Needs.{needs}
 use Rattle.rvf_c.proofs.payloads.rvf_vec_read.Statement.{statement}

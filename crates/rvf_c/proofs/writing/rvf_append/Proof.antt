@@ -3,7 +3,7 @@
 use mathlib.Core.Path.{sym, ap, _∙_}
 use mathlib.Core.List.{[]}
 use Rattle.answers.specs.Out.{out-refused, out-accepted}
-use Rattle.append.specs.commit.Answer.{appendedAnswer}
+use Rattle.appending.specs.Append.{appendedAnswer}
 use lib.Dec.{lit<}
 use borrow.Author.Needs.{needs}
 use Rattle.rvf_c.proofs.writing.rvf_append.Statement.{statement}

@@ -6,7 +6,7 @@ use lib.Dec.{leb}
 use lib.Seq.{length-take-le}
 use borrow.Author.Tests.{not-true, not-false, ne-eqb}
 use Rattle.segment.specs.Header.{flagsHeld}
-use Rattle.segment.specs.Step.{leastId}
+use Rattle.octets.specs.numbers.Numbers.{leastNext}
 use Rattle.segment.specs.Ways.{head-fails, head-holds}
 use borrow.Author.Needs.{needs}
 use Rattle.segment.proofs.header.header_sound.Statement.{statement}
@@ -87,8 +87,8 @@ returns-7 c = head-fails _ _ 6 (sym (c .before .is-zero2 .ensures) ∙ not-true 
 u64-at-requires : tie.Need-u64-at-requires
 u64-at-requires c κs = search needs
 
-id-above-requires : tie.Need-id-above-requires
-id-above-requires c κs = search needs
+follows-requires : tie.Need-follows-requires
+follows-requires c κs = search needs
 
 returns-8 : tie.Need-returns-8
 returns-8 c =
@@ -100,7 +100,7 @@ returns-8 c =
     (c .before .before .before .before .before .before .before .before .if5 .left)
     (sym (c .before .before .before .before .before .before .is-zero .ensures) ∙ not-false _ (c .before .before .before .before .before .if6 .left))
     (sym (c .before .before .before .is-zero2 .ensures) ∙ not-false _ (c .before .before .if7 .left))
-    (c .id-above .ensures ∙ ap (leb (leastId (c .before .before .before .before .before .before .before .before .before .before .before .before .before .before .before .before .before .before .before .before .before .before .before .args .first) (c .before .before .before .before .before .before .before .before .before .before .before .before .before .before .before .before .before .before .before .before .before .before .before .args .prev))) (c .before .u64-at .ensures))
+    (c .follows .ensures ∙ ap (leb (leastNext (c .before .before .before .before .before .before .before .before .before .before .before .before .before .before .before .before .before .before .before .before .before .before .before .args .first) (c .before .before .before .before .before .before .before .before .before .before .before .before .before .before .before .before .before .before .before .before .before .before .before .args .prev))) (c .before .u64-at .ensures))
 
 pub header-sound-spec : {M : Type 1} → statement M
 header-sound-spec =
@@ -131,5 +131,5 @@ header-sound-spec =
     is-zero-requires-2
     returns-7
     u64-at-requires
-    id-above-requires
+    follows-requires
     returns-8)

@@ -7,7 +7,7 @@ use lib.ListN.{length}
 use mir.Syntax.{w8}
 use mir.Val.{toZ, ofZ}
 use Rattle.vecseg.specs.Payload.{width}
-use Rattle.vec_read.specs.declared.values.Component.the-variants.{Float, Signed}
+use Rattle.vecseg.specs.declared.Component.the-variants.{Float, Signed}
 use Rattle.vec_read.specs.values.Component.{component-float, component-signed, component-unsigned}
 use borrow.Author.Needs.{needs}
 use Rattle.vec_read.proofs.values.component_at.Statement.{statement}

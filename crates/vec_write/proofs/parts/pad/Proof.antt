@@ -2,7 +2,7 @@
 -- Assumes nothing.
 use native.Mathlib.Omega.{arith}
 use Rattle.octets.specs.Round.{round64, round64-ge}
-use Rattle.vec_write.specs.parts.Laid.{pad-laid}
+use Rattle.vecseg.specs.Laid.{pad-laid}
 use borrow.Author.Needs.{needs}
 use Rattle.vec_write.proofs.parts.pad.Statement.{statement}
 use Rattle.vec_write.proofs.parts.pad.Tie as tie

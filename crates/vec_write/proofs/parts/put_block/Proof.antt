@@ -5,7 +5,7 @@ use mathlib.Core.Path.{sym}
 use native.Mathlib.Omega.{arith}
 use lib.Seq.{length-take-le}
 use Rattle.octets.specs.Round.{round64-ge}
-use Rattle.vec_write.specs.parts.Laid.{map-laid, block-laid}
+use Rattle.vecseg.specs.Laid.{map-laid, block-laid}
 use borrow.Author.Needs.{needs}
 use Rattle.vec_write.proofs.parts.put_block.Statement.{statement}
 use Rattle.vec_write.proofs.parts.put_block.Tie as tie

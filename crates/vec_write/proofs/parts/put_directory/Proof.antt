@@ -2,7 +2,7 @@
 -- Assumes nothing.
 use native.Mathlib.Omega.{arith}
 use Rattle.octets.specs.Round.{round64}
-use Rattle.vec_write.specs.parts.Laid.{directory-laid}
+use Rattle.vecseg.specs.Laid.{directory-laid}
 use borrow.Author.Needs.{needs}
 use Rattle.vec_write.proofs.parts.put_directory.Statement.{statement}
 use Rattle.vec_write.proofs.parts.put_directory.Tie as tie

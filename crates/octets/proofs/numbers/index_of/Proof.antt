@@ -1,21 +1,20 @@
--- `vec_find::index_of` meets its contract, by where its loop stands.
+-- `numbers::index_of` meets its contract, by where its loop stands.
 -- Assumes nothing.
 use Prim.Native.Nat.{_-_}
 use mathlib.Core.Path.{_≡_, refl, sym, ap, _∙_}
 use native.Mathlib.Omega.{arith}
 use lib.ListN.{length, take}
 use lib.Seq.{length-take-le, getD-take}
-use Rattle.vecseg.specs.FindLaws.{IndexAt, index-first, index-here, index-next, index-last}
-use Rattle.vec_read.specs.find.Found.{index-place, index-nowhere}
+use Rattle.octets.specs.numbers.NumbersLaws.{IndexAt, index-first, index-here, index-next, index-last, index-place, index-nowhere}
 use borrow.Author.Needs.{needs}
-use Rattle.vec_read.proofs.find.index_of.Statement.{statement}
-use Rattle.vec_read.proofs.find.index_of.Tie as tie
+use Rattle.octets.proofs.numbers.index_of.Statement.{statement}
+use Rattle.octets.proofs.numbers.index_of.Tie as tie
 
 abbrev Inv-loop : tie.InvT-loop
-Inv-loop ids n id i₀ i = IndexAt id (take n ids) i
+Inv-loop ids n x i₀ i = IndexAt x (take n ids) i
 
 abbrev μ-loop : tie.MeasureT-loop
-μ-loop ids n id i₀ i = n - i
+μ-loop ids n x i₀ i = n - i
 
 loop-holds : tie.Need-loop-holds Inv-loop μ-loop
 loop-holds c = index-first _ _
@@ -30,7 +29,7 @@ returns : tie.Need-returns Inv-loop μ-loop
 returns c =
     let ids = c .before .before .before .before .args .ids .now in
     let n = length-take-le (c .before .before .before .before .args .n) ids (c .before .before .before .before .pre) in
-    index-place _ _ (index-here (c .before .before .before .before .args .id) (take (c .before .before .before .before .args .n) ids) (c .before .before .before .loop .i) (c .before .before .before .loop .inv) (omega arith) (getD-take (c .before .before .before .before .args .n) ids (c .before .before .before .loop .i) 0 (omega arith) ∙ c .if1 .taken))
+    index-place _ _ (index-here (c .before .before .before .before .args .x) (take (c .before .before .before .before .args .n) ids) (c .before .before .before .loop .i) (c .before .before .before .loop .inv) (omega arith) (getD-take (c .before .before .before .before .args .n) ids (c .before .before .before .loop .i) 0 (omega arith) ∙ c .if1 .taken))
 
 add-i : tie.Need-add-i Inv-loop μ-loop
 add-i c = search needs
@@ -42,12 +41,12 @@ loop-again : tie.Need-loop-again Inv-loop μ-loop
 loop-again c =
     let ids = c .before .before .before .before .args .ids .now in
     let n = length-take-le (c .before .before .before .before .args .n) ids (c .before .before .before .before .pre) in
-    index-next (c .before .before .before .before .args .id) (take (c .before .before .before .before .args .n) ids) (c .before .before .before .loop .i) (c .before .before .before .loop .inv) (omega arith) (λ e. c .if1 .left (sym (getD-take (c .before .before .before .before .args .n) ids (c .before .before .before .loop .i) 0 (omega arith)) ∙ e))
+    index-next (c .before .before .before .before .args .x) (take (c .before .before .before .before .args .n) ids) (c .before .before .before .loop .i) (c .before .before .before .loop .inv) (omega arith) (λ e. c .if1 .left (sym (getD-take (c .before .before .before .before .args .n) ids (c .before .before .before .loop .i) 0 (omega arith)) ∙ e))
 
 returns-2 : tie.Need-returns-2 Inv-loop μ-loop
 returns-2 c =
     let n = length-take-le (c .before .before .args .n) (c .before .before .args .ids .now) (c .before .before .pre) in
-    index-nowhere _ (index-last (c .before .before .args .id) (take (c .before .before .args .n) (c .before .before .args .ids .now)) (c .before .loop .i) (c .before .loop .inv) (omega arith))
+    index-nowhere _ (index-last (c .before .before .args .x) (take (c .before .before .args .n) (c .before .before .args .ids .now)) (c .before .loop .i) (c .before .loop .inv) (omega arith))
 
 pub index-of-spec : {M : Type 1} → statement M
 index-of-spec =

@@ -14,9 +14,9 @@ use Rattle.segment.specs.chain.Walk.{walk-cons}
 use Rattle.segment.specs.Header.{Link, State, reader, linkAt, size, after}
 use Rattle.segment.specs.Laws.{segment-format, linkFront, Lies, lies, size-least}
 use Rattle.segment.specs.Chained.{chain, offsetsOf}
 use Rattle.manifest.specs.Sized.{entriesOf-same}
 use Rattle.manifest.specs.Payload.{entryBytes, entries, recordBytes, manifestPayload}
-use Rattle.confirm.specs.entries.At.{Inside, entryAt, entriesAt, recordHead, fill, payloadAt}
+use Rattle.manifest.specs.At.{Inside, entryAt, entriesAt, recordHead, fill, payloadAt}
 
 -- a link is read from the file at its own offset
 pub record Lying (f : List ℕ) (l : Link) : Type 0 where

@@ -1,12 +1,12 @@
--- `idmap::left_after` meets its contract.
+-- `delta::left_after` meets its contract.
 -- Assumes nothing.
 use Prim.Native.Nat.{suc, _-_}
 use mathlib.Core.Path.{_≡_}
 use native.Mathlib.Omega.{arith}
 use Rattle.idmap.specs.Encode.{leftAfter}
 use borrow.Author.Needs.{needs}
-use Rattle.idmap.proofs.left_after.Statement.{statement}
-use Rattle.idmap.proofs.left_after.Tie as tie
+use Rattle.idmap_read.proofs.delta.left_after.Statement.{statement}
+use Rattle.idmap_read.proofs.delta.left_after.Tie as tie
 
 sub-result : tie.Need-sub-result
 sub-result c = search needs

@@ -1,8 +1,8 @@
--- `vecseg::width_of` meets its contract.
+-- `width::width_of` meets its contract.
 -- Assumes nothing.
 use Rattle.vecseg.specs.LineLaws.{width-f32, width-byte, width-unsigned, width-none}
-use Rattle.vecseg.proofs.width_of.Statement.{statement}
-use Rattle.vecseg.proofs.width_of.Tie as tie
+use Rattle.vec_read.proofs.width.width_of.Statement.{statement}
+use Rattle.vec_read.proofs.width.width_of.Tie as tie
 
 returns : tie.Need-returns
 returns c = width-f32 _ (c .if1 .taken)

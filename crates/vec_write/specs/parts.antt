@@ -1,2 +1,0 @@
--- What the parts of a one-block payload lay into a buffer.
-pub mod Laid
