@@ -3,3 +3,4 @@ pub mod Answer
 pub mod Out
 pub mod Write
 pub mod limits
+pub mod WriteLaws

@@ -8,10 +8,10 @@ use mathlib.Core.List.{List, [], _∷_, _++_, append-assoc}
 use native.Mathlib.Omega.{arith}
 use lib.ListN.{length, take, replicate, length-append, replicate-append-replicate}
 use lib.Seq.{take-take, take-append-add, length-take-le}
-use Rattle.octets.specs.Zero.{zeros-front}
+use Rattle.octets.specs.ZeroLaws.{zeros-front}
 use Rattle.answers.specs.limits.Limits.{maxEntries}
 use Rattle.octets.specs.le.Le.{Bytes}
-use Rattle.segment.specs.chain.Last.{Found, upTo}
+use Rattle.segment.specs.chain.Chain.{Found, upTo}
 use Rattle.segment.specs.Header.{Link, size}
 use Rattle.segment.specs.Chained.{offsetsOf}
 use Rattle.segment.specs.index.Offsets.{most}

@@ -7,11 +7,11 @@ use native.Mathlib.Omega.{arith}
 use lib.ListN.{length, take, drop, replicate, length-map}
 use lib.Seq.{drop-at}
 use Rattle.octets.specs.Over.{over}
-use Rattle.octets.specs.Zero.{zeros-left}
-use Rattle.segment.specs.chain.Chain.{All}
+use Rattle.octets.specs.ZeroLaws.{zeros-left}
+use Rattle.segment.specs.chain.Laws.{All}
 use Rattle.segment.specs.Header.{Link}
 use Rattle.segment.specs.Chained.{offsetsOf, Rising, chain-rising}
-use Rattle.manifest.specs.Sized.{length-statesBy}
+use Rattle.manifest.specs.SizedLaws.{length-statesBy}
 use Rattle.manifest.specs.Payload.{entrySize, statesIn}
 use Rattle.manifest.specs.Opening.{opened, states}
 use Rattle.manifest.specs.At.{Inside}

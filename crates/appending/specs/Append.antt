@@ -1,7 +1,7 @@
 -- Appending as document 01 has it ('The batch sheet and appending'): the answer for all input, with every refusal in 01's order, and the whole
 -- buffer after the call. Definitions only.
 -- Assumes nothing.
-use Prim.Native.Nat.{ℕ, _+_, _-_, _^_}
+use Prim.Native.Nat.{ℕ, _+_, _-_, _^_, _≤_}
 use mathlib.Core.Path.{_≡_}
 use mathlib.Core.Bool.{Bool, true, false, cond, not, _&&_}
 use mathlib.Core.Option.{Option, none, some}
@@ -12,7 +12,7 @@ use Rattle.octets.specs.Round.{round64}
 use Rattle.octets.specs.Over.{over}
 use Rattle.answers.specs.limits.Limits.{maxFile, maxEntries}
 use Rattle.answers.specs.Answer.{Answer, Accepted, Refusal}
-use Rattle.segment.specs.chain.Last.{Found, upTo}
+use Rattle.segment.specs.chain.Chain.{Found, upTo}
 use Rattle.segment.specs.Header.{Link, size}
 use Rattle.segment.specs.Written.{segment, linkOf}
 use Rattle.manifest.specs.Payload.{manifestKind, confirmed, manifestPayload, payloadLength}
@@ -163,3 +163,9 @@ pub record Appends (old : List ℕ) (n : ℕ) (batch ids : List ℕ) (ts : ℕ) 
 unfoldable pub appendedAnswer : Appended → Answer
 appendedAnswer (At end id count) = Accepted (end ∷ id ∷ count ∷ [])
 appendedAnswer (Refused n) = Refusal n []
+
+-- ---- on a buffer
+
+-- the buffer's first bytes are the file, where it is long enough
+abbrev pub Holds : List ℕ → List ℕ → Type 0
+Holds old f = length f ≤ length old → take (length f) old ≡ f

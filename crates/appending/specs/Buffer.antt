@@ -11,14 +11,15 @@ use Rattle.octets.specs.Over.{over}
 use Rattle.octets.specs.Round.{round64}
 use Rattle.answers.specs.Answer.{Accepted}
 use Rattle.segment.specs.chain.Last as last
-use Rattle.segment.specs.chain.Last.{Found, upTo}
+use Rattle.segment.specs.chain.Chain.{Found, upTo, openOf}
 use Rattle.segment.specs.Header.{Link, start, reader, size}
 use Rattle.segment.specs.Laws.{segment-format}
-use Rattle.segment.specs.Written.{linkOf, linkOf-size}
+use Rattle.segment.specs.Written.{linkOf}
+use Rattle.segment.specs.WrittenLaws.{linkOf-size}
 use Rattle.manifest.specs.Payload.{manifestKind, payloadLength, confirmed}
 use Rattle.manifest.specs.Opening.{opened, states}
 use Rattle.batch.specs.Form.{Body, bodiesOf}
-use Rattle.appending.specs.Append.{keptLinks, startOf, nextId, bodyLinks, manifestAt, manifestId, newCount, newEnd, newLinks, newStates, newPayload, newBytes, answerOn, appendAnswer, bufferOn, appendBuffer, Appends}
+use Rattle.appending.specs.Append.{keptLinks, startOf, nextId, bodyLinks, manifestAt, manifestId, newCount, newEnd, newLinks, newStates, newPayload, newBytes, answerOn, appendAnswer, bufferOn, appendBuffer, Appends, Holds}
 use Rattle.appending.specs.Accepts.{Fits, accepted-when}
 use Rattle.appending.specs.Written.{bodies-held, bodies-never}
 use Rattle.appending.specs.Opens.{kept, newManifest, fileWith, cutFile, links-count, new-payload-length, new-states, new-confirmed, new-length, new-exact}
@@ -48,7 +49,7 @@ module _ (f : List ℕ) (room n : ℕ) (batch ids : List ℕ) (ts : ℕ) (h : ts
   pub open-with : opened (fileWith f bs ids ts) ≡ some (record { before = newLinks o bs ts; link = newManifest o bs ids ts })
   unfolding opened fileWith newLinks
   open-with =
-      ap (λ (x : List ℕ). last.openOf reader confirmed start (x ++ newBytes o bs ids ts)) (sym (kept-is f))
+      ap (λ (x : List ℕ). openOf reader confirmed start (x ++ newBytes o bs ids ts)) (sym (kept-is f))
       ∙ last.open-append reader confirmed start segment-format f (newBytes o bs ids ts) (bodyLinks (startOf o) (nextId o) ts bs) (newManifest o bs ids ts)
       (new-exact o (kept f) bs ids ts h (bodies-held batch (y .batch-held)) (y .id-fits) (y .end-limit))
       (new-confirmed o (kept f) bs ids ts (y .count-fits) (y .retire-held))
@@ -62,7 +63,7 @@ module _ (f : List ℕ) (room n : ℕ) (batch ids : List ℕ) (ts : ℕ) (h : ts
   pub open-cut : (k : ℕ) → k < length (newBytes o bs ids ts) → opened (cutFile f bs ids ts k) ≡ opened f
   unfolding opened cutFile
   open-cut k l =
-      ap (λ (x : List ℕ). last.openOf reader confirmed start (x ++ take k (newBytes o bs ids ts))) (sym (kept-is f))
+      ap (λ (x : List ℕ). openOf reader confirmed start (x ++ take k (newBytes o bs ids ts))) (sym (kept-is f))
       ∙ last.open-cut reader confirmed start segment-format f (newBytes o bs ids ts) (bodyLinks (startOf o) (nextId o) ts bs) (newManifest o bs ids ts)
       (new-exact o (kept f) bs ids ts h (bodies-held batch (y .batch-held)) (y .id-fits) (y .end-limit))
       (bodies-never ts (startOf o) (nextId o) bs (bodies-held batch (y .batch-held))) k l
@@ -74,12 +75,6 @@ module _ (f : List ℕ) (room n : ℕ) (batch ids : List ℕ) (ts : ℕ) (h : ts
       let a = length-append (take (startOf o) f) (newBytes o bs ids ts) in
       let b = length-take-le (startOf o) f s in
       omega (arith, new-length o (kept f) bs ids ts)
-
--- ---- on a buffer
-
--- the buffer's first bytes are the file, where it is long enough
-abbrev pub Holds : List ℕ → List ℕ → Type 0
-Holds old f = length f ≤ length old → take (length f) old ≡ f
 
 pub record Appended (f old : List ℕ) (batch ids : List ℕ) (ts : ℕ) (vs new : List ℕ) : Type 0 where
   pub fits : Fits (length old) (length f) (opened f) batch ids

@@ -7,12 +7,13 @@ use native.Mathlib.Omega.{arith}
 use lib.ListN.{length, drop, getD, replicate, length-append, length-replicate, length-drop}
 use lib.Seq.{getD-append-add, length-take-le}
 use Rattle.octets.specs.le.Le.{leBytes}
-use Rattle.segment.specs.chain.Chain.{All, all-map}
+use Rattle.segment.specs.chain.Laws.{All, all-map}
 use Rattle.segment.specs.Header.{Link}
 use Rattle.segment.specs.Laws.{linkFront, Lies, lies, size-least}
 use Rattle.segment.specs.Chained.{chain}
-use Rattle.segment.specs.Written.{linkOf, hash-length}
-use Rattle.manifest.specs.Sized.{length-entriesOf, statesBy-entries}
+use Rattle.segment.specs.Written.{linkOf}
+use Rattle.segment.specs.WrittenLaws.{hash-length}
+use Rattle.manifest.specs.SizedLaws.{length-entriesOf, statesBy-entries}
 use Rattle.manifest.specs.Payload.{entrySize, entryBytes, entries, recordEnd, recordBytes, root, payloadLength, manifestPayload, statesIn}
 use Rattle.manifest.specs.At.{record-ge, length-root}
 use Rattle.manifest.specs.Lying.{Lying, chain-lying}

@@ -9,19 +9,23 @@ use native.Mathlib.Omega.{arith}
 use lib.Dec.{eqb, leb}
 use lib.ListN.{length, take, drop, replicate, length-append, length-replicate}
 use borrow.Author.Tests.{le-leb}
-use Rattle.octets.specs.Round.{round64, round64-ge}
-use Rattle.octets.specs.Zero.{sameBytes, equal-same, and-split}
+use Rattle.octets.specs.Round.{round64}
+use Rattle.octets.specs.RoundLaws.{round64-ge}
+use Rattle.octets.specs.Zero.{sameBytes}
+use Rattle.octets.specs.ZeroLaws.{equal-same, and-split}
 use Rattle.answers.specs.limits.Limits.{maxFile, maxEntries}
-use Rattle.segment.specs.chain.Chain.{All, all-append, Exact, afters, afters-append, exact-append, sizes}
+use Rattle.segment.specs.chain.Laws.{All, all-append, Exact, afters, afters-append, exact-append, sizes}
 use Rattle.segment.specs.chain.Last as last
-use Rattle.segment.specs.chain.Last.{Found, upTo, Stands, last-stands}
+use Rattle.segment.specs.chain.Chain.{Found, upTo, openOf}
+use Rattle.segment.specs.chain.Last.{Stands, last-stands}
 use Rattle.segment.specs.chain.Walk.{sizes-append}
 use Rattle.segment.specs.Header.{Link, start, reader, size, whole, typeHeld, flagsHeld}
 use Rattle.segment.specs.Laws.{segment-format, afters-at}
 use Rattle.segment.specs.Chained.{chain, link-place, Rising, chain-rising}
-use Rattle.segment.specs.Written.{segment, linkOf, segment-length}
+use Rattle.segment.specs.Written.{segment, linkOf}
+use Rattle.segment.specs.WrittenLaws.{segment-length}
 use Rattle.segment.specs.Readback.{Fields, segment-exact, written-whole}
-use Rattle.manifest.specs.Sized.{length-statesBy}
+use Rattle.manifest.specs.SizedLaws.{length-statesBy}
 use Rattle.manifest.specs.Payload.{manifestKind, entrySize, confirmed, manifestPayload, payloadLength, statesHeld, statesIn}
 use Rattle.manifest.specs.Opening.{opened, states}
 use Rattle.batch.specs.Form.{Body}
@@ -84,7 +88,7 @@ kept-some f r s =
     }
 
 pub kept : (f : List ℕ) → Kept (opened f)
-unfolding opened last.openOf
+unfolding opened openOf
 kept f = go (opened f) refl
   where
     go : (o : Option (Found Link)) → opened f ≡ o → Kept o

@@ -10,13 +10,16 @@ use lib.Dec.{eqb, leb}
 use lib.ListN.{length, take, drop, getD, length-append}
 use Rattle.octets.specs.le.Le.{leAt}
 use borrow.Author.Tests.{eqb-true, not-true}
-use Rattle.octets.specs.Round.{round64, round64-ge}
-use Rattle.octets.specs.Zero.{allZero, and-split}
+use Rattle.octets.specs.Round.{round64}
+use Rattle.octets.specs.RoundLaws.{round64-ge}
+use Rattle.octets.specs.Zero.{allZero}
+use Rattle.octets.specs.ZeroLaws.{and-split}
 use Rattle.answers.specs.limits.Limits.{maxBodies, maxBatch}
-use Rattle.segment.specs.chain.Chain.{All, Exact, done, afters, exact-append}
+use Rattle.segment.specs.chain.Laws.{All, Exact, done, afters, exact-append}
 use Rattle.segment.specs.Header.{Link, reader, size, typeHeld, flagsHeld}
 use Rattle.segment.specs.Laws.{segment-format}
-use Rattle.segment.specs.Written.{segment, linkOf, linkOf-size, segment-length}
+use Rattle.segment.specs.Written.{segment, linkOf}
+use Rattle.segment.specs.WrittenLaws.{linkOf-size, segment-length}
 use Rattle.segment.specs.Readback.{Fields, segment-exact}
 use Rattle.manifest.specs.Payload.{manifestKind, confirmed}
 use Rattle.batch.specs.Form.{Body, lineHeld, lineLength, lineSize, linesHeld, bodyKindHeld, bodyCount, bodiesAt, batchHeld, bodiesFrom, bodiesOf}

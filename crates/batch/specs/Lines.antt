@@ -11,7 +11,8 @@ use lib.Dec.{eqb, leb}
 use lib.ListN.{length, take, drop, getD, length-drop}
 use lib.Seq.{length-take-le, getD-take, getD-drop, drop-drop}
 use borrow.Author.Tests.{le-leb, lt-leb, eq-eqb, ne-eqb, leb-true, eqb-true}
-use Rattle.octets.specs.Zero.{allZero, and-split}
+use Rattle.octets.specs.Zero.{allZero}
+use Rattle.octets.specs.ZeroLaws.{and-split}
 use Rattle.octets.specs.Parts.{part-front}
 use Rattle.octets.specs.le.Le.{leAt}
 use Rattle.answers.specs.limits.Limits.{maxBodies, maxBatch}

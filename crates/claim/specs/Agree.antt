@@ -9,12 +9,12 @@ use native.Mathlib.Omega.{arith}
 use lib.ListN.{length, take, drop, getD, replicate}
 use Rattle.answers.specs.limits.Limits.{maxFile}
 use Rattle.answers.specs.Answer.{Answer, Accepted, Refusal}
-use Rattle.segment.specs.chain.Chain.{walk, walkF}
+use Rattle.segment.specs.chain.Chain.{walk, walkF, Found, upTo, lastConfirmed, openOf, scan}
 use Rattle.segment.specs.chain.Last as last
-use Rattle.segment.specs.chain.Last.{Found, upTo}
 use Rattle.segment.specs.Header.{Link, size}
-use Rattle.segment.specs.Written.{linkOf, linkOf-size}
-use Rattle.manifest.specs.Sized.{length-statesBy}
+use Rattle.segment.specs.Written.{linkOf}
+use Rattle.segment.specs.WrittenLaws.{linkOf-size}
+use Rattle.manifest.specs.SizedLaws.{length-statesBy}
 use Rattle.manifest.specs.Payload.{manifestKind, manifestPayload, entrySize}
 use Rattle.manifest.specs.Opening.{opened, states}
 use Rattle.batch.specs.Form.{Body, bodiesOf, member}
@@ -22,7 +22,8 @@ use Rattle.appending.specs.Retire.{retired}
 use Rattle.appending.specs.Append.{keptLinks, startOf, nextId, oldStates, keptStates, bodySize, bodyLinks, bodiesEnd, manifestAt, manifestId, newEnd, newLinks, newStates, newPayload, Appends}
 use Rattle.appending.specs.Accepts.{Fits}
 use Rattle.appending.specs.Opens.{newManifest, fileWith}
-use Rattle.appending.specs.Buffer.{open-with, states-with, with-length, Holds, Appended, appended, file-is}
+use Rattle.appending.specs.Buffer.{open-with, states-with, with-length, Appended, appended, file-is}
+use Rattle.appending.specs.Append.{Holds}
 use Rattle.claim.specs.Model.{Entry, linksOf, statesOf, liveEntry, Model, emptyModel, paired, modelOf, retiredIf, retire, ifAny, joinManifest, joinBody, joinBodies, newManifestEntry, acceptedModel, feed, feedAll}
 use Rattle.claim.specs.Runs.{Call, isAccepted, fedOf, fedAll, fileAfter, Run, stop, call}
 
@@ -120,7 +121,7 @@ agree-found g es l h e s =
 -- ---- the two starts
 
 pub agree-empty : Agree [] emptyModel
-unfolding emptyModel foundBy opened last.openOf walk walkF last.lastConfirmed last.scan oldStates upTo keptStates ifAny startOf nextId
+unfolding emptyModel foundBy opened openOf walk walkF lastConfirmed scan oldStates upTo keptStates ifAny startOf nextId
 agree-empty = record { fits = omega arith; opens = refl; states-are = refl; kept-are = refl; kept-states = λ ids. refl; end-is = refl; next-is = refl }
 
 paired-links : (ls : List Link) (ss : List ℕ) → linksOf (paired ls ss) ≡ ls

@@ -11,18 +11,20 @@ use lib.Dec.{leb}
 use lib.ListN.{length, take, drop, getD, length-map, length-append}
 use Rattle.answers.specs.limits.Limits.{maxFile}
 use Rattle.answers.specs.Answer.{Answer, Accepted, Refusal}
-use Rattle.segment.specs.chain.Chain.{All}
-use Rattle.segment.specs.chain.Last.{Found, upTo}
+use Rattle.segment.specs.chain.Laws.{All}
+use Rattle.segment.specs.chain.Chain.{Found, upTo}
 use Rattle.segment.specs.Header.{Link, size, noLink}
 use Rattle.manifest.specs.Opening.{opened, states, tried, foundCase, openedAnswer, openAnswer}
 use Rattle.manifest.specs.OpeningLaws.{at-within, open-within}
 use Rattle.manifest.specs.Directory.{entryOf, entryIn, entryCase}
 use Rattle.manifest.specs.declared.DirectoryEntry.{DirectoryEntry}
 use Rattle.manifest.specs.declared.DirectoryEntry.the-variants.{NoEntry, Refused as NotOpened}
-use Rattle.reading.specs.Placed.{InFile, before-in}
+use Rattle.reading.specs.Part.{InFile}
+use Rattle.reading.specs.Placed.{before-in}
 use Rattle.batch.specs.Form.{bodiesOf}
 use Rattle.appending.specs.Append.{startOf, oldStates, keptLinks, newEnd, bufferOn, appendBuffer, Appends}
-use Rattle.appending.specs.Buffer.{Holds, Appended, appended, before-start, behind-end}
+use Rattle.appending.specs.Append.{Holds}
+use Rattle.appending.specs.Buffer.{Appended, appended, before-start, behind-end}
 use Rattle.claim.specs.Model.{Entry, linksOf, statesOf, Model, emptyModel, modelOf, ifAny, feedAll}
 use Rattle.claim.specs.Runs.{Call, fedAll, Run, stop, call}
 use Rattle.claim.specs.Agree.{Agree, foundBy, run-agrees, agree-empty, agree-opened}

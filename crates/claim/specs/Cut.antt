@@ -12,7 +12,7 @@ use lib.Seq.{take-take, length-take-le}
 use borrow.Author.Tests.{lt-ltb, le-ltb, ltb-false}
 use Rattle.answers.specs.limits.Limits.{maxFile}
 use Rattle.answers.specs.Answer.{Answer, Accepted, Refusal}
-use Rattle.segment.specs.chain.Last.{Found}
+use Rattle.segment.specs.chain.Chain.{Found}
 use Rattle.segment.specs.Header.{Link}
 use Rattle.segment.specs.Laws.{size-least}
 use Rattle.manifest.specs.Opening.{opened, foundCase, openedAnswer, openAnswer}
@@ -23,7 +23,8 @@ use Rattle.reading.specs.Answers.{NotHanded, partFound, partIn, Bad, hitFound, 
 use Rattle.batch.specs.Form.{bodiesOf}
 use Rattle.appending.specs.Append.{startOf, newEnd, newBytes, checked, isNone, appendChecks, answerOn, appendAnswer, Appends}
 use Rattle.appending.specs.Opens.{kept, cutFile, new-length}
-use Rattle.appending.specs.Buffer.{start-inside, open-cut, Holds, Appended, appended, answer-is, some-new}
+use Rattle.appending.specs.Buffer.{start-inside, open-cut, Appended, appended, answer-is, some-new}
+use Rattle.appending.specs.Append.{Holds}
 use Rattle.claim.specs.Runs.{Call, fileAfter, Run, stop, call}
 use Rattle.claim.specs.Reports.{orBefore, ifAccepted, lastAccepted}
 

@@ -12,7 +12,8 @@ use lib.ListN.{length, getD}
 use Rattle.answers.specs.Answer.{Answer, Accepted, Refusal}
 use Rattle.manifest.specs.Opening.{opened}
 use Rattle.appending.specs.Append.{startOf, appendAnswer, Appends}
-use Rattle.appending.specs.Buffer.{Holds, Appended, appended}
+use Rattle.appending.specs.Append.{Holds}
+use Rattle.appending.specs.Buffer.{Appended, appended}
 use Rattle.claim.specs.Model.{Model, feedAll}
 use Rattle.claim.specs.Runs.{Call, fedAll, fileAfter, Run, stop, call}
 use Rattle.claim.specs.Reports.{orBefore, ifAccepted, lastAccepted}

@@ -8,14 +8,15 @@ use mathlib.Core.List.{List, [], _∷_, _++_, map, map-append, append-assoc, app
 use native.Mathlib.Omega.{arith}
 use lib.ListN.{length, length-map}
 use Rattle.answers.specs.Answer.{Answer, Accepted, Refusal}
-use Rattle.segment.specs.chain.Chain.{All, all-map}
+use Rattle.segment.specs.chain.Laws.{All, all-map}
 use Rattle.segment.specs.Header.{Link, size}
 use Rattle.segment.specs.Written.{linkOf}
 use Rattle.manifest.specs.Opening.{opened}
 use Rattle.batch.specs.Form.{Body, bodiesOf}
 use Rattle.appending.specs.Append.{bodySize, bodyLinks, manifestId, newCount, newEnd, Appends}
 use Rattle.appending.specs.Opens.{kept, links-count}
-use Rattle.appending.specs.Buffer.{next-size, Holds, Appended, appended}
+use Rattle.appending.specs.Buffer.{next-size, Appended, appended}
+use Rattle.appending.specs.Append.{Holds}
 use Rattle.claim.specs.Model.{Entry, linksOf, Model, retiredIf, retire, ifAny, joinManifest, joinBodies, newManifestEntry, acceptedModel, feed, feedAll}
 use Rattle.claim.specs.Runs.{Call, isAccepted, fedOf, fedAll, Run, stop, call}
 use Rattle.claim.specs.Agree.{Agree, agree-call, links-retired, joined, full-links, full-end, full-next, link-is}

@@ -6,7 +6,7 @@ use mathlib.Core.List.{List, [], _∷_}
 use lib.ListN.{length, take, getD}
 use Rattle.answers.specs.Answer.{Answer, Accepted, Refusal}
 use Rattle.appending.specs.Append.{Appends}
-use Rattle.appending.specs.Buffer.{Holds}
+use Rattle.appending.specs.Append.{Holds}
 use Rattle.claim.specs.Model.{Fed}
 
 -- a call's arguments other than the file, and its answer

@@ -10,7 +10,7 @@ use lib.ListN.{length}
 use borrow.Author.Tests.{ne-eqb, leb-true, ltb-true, eqb-true, eqb-false}
 use Rattle.answers.specs.limits.Limits.{maxVectors}
 use Rattle.idmap.specs.Encode.{mapHead, rawIds, deltas, restarts, intervalOf, mapBytes, risesFrom, intervalHeld, mapBad}
-use Rattle.octets.specs.Zero.{and-split}
+use Rattle.octets.specs.ZeroLaws.{and-split}
 
 pub record Good (ids : List ℕ) (encoding interval : ℕ) : Type 0 where
   pub one : 1 ≤ length ids

@@ -18,7 +18,7 @@ use Rattle.idmap.specs.Encode.{mapHead, rawIds, deltaOf, leftAfter, delt
 use Rattle.idmap.specs.Decode.{Whole, readRaw, rawMap, idOf, idHeld, offsBehind, readDeltas, groups, deltaMap, mapBody, mapOf}
 use Rattle.idmap.specs.DeltaLaws.{deltas-next}
 use Rattle.idmap.specs.EncodeLaws.{length-head, length-rawIds, length-restarts}
-use Rattle.octets.specs.Zero.{and-split}
+use Rattle.octets.specs.ZeroLaws.{and-split}
 use Rattle.idmap.specs.Accepted.{Good, good, bytes-raw, bytes-delta, interval-pos}
 
 -- every element fits 64 bits

@@ -6,7 +6,8 @@ use mathlib.Core.Bool.{true}
 use mathlib.Core.List.{List, _++_}
 use native.Mathlib.Omega.{arith}
 use lib.ListN.{length, length-append}
-use Rattle.octets.specs.Over.{over, over-then}
+use Rattle.octets.specs.Over.{over}
+use Rattle.octets.specs.OverLaws.{over-then}
 use Rattle.idmap.specs.Encode.{mapHead, rawIds, deltas, restarts, intervalOf, mapBytes, risesFrom, mapBad}
 use Rattle.idmap.specs.Decode.{groups}
 use Rattle.idmap.specs.DeltaLaws.{groups-few}

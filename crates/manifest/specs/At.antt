@@ -9,8 +9,9 @@ use lib.ListN.{length, take, drop, getD, replicate, length-append, length-drop, 
 use lib.Seq.{length-take-le}
 use Rattle.octets.specs.le.Le.{leBytes}
 use Rattle.octets.specs.le.Laws.{length-leBytes}
-use Rattle.segment.specs.chain.Chain.{All}
-use Rattle.manifest.specs.Sized.{entriesOf, length-entriesOf, recordBy-ge}
+use Rattle.segment.specs.chain.Laws.{All}
+use Rattle.manifest.specs.Sized.{entriesOf}
+use Rattle.manifest.specs.SizedLaws.{length-entriesOf, recordBy-ge}
 use Rattle.manifest.specs.Payload.{entrySize, recordEnd, payloadLength, rootBytes, root}
 
 -- every place has a header's bytes behind it

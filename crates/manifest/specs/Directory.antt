@@ -8,7 +8,7 @@ use lib.Dec.{leb}
 use lib.ListN.{length, getD}
 use lib.Seq.{sets}
 use Rattle.octets.specs.le.Le.{leAt}
-use Rattle.segment.specs.chain.Last.{Found}
+use Rattle.segment.specs.chain.Chain.{Found}
 use Rattle.segment.specs.Header.{Link, noLink}
 use Rattle.manifest.specs.Opening.{states, atOpened}
 use Rattle.manifest.specs.declared.DirectoryEntry.{DirectoryEntry}

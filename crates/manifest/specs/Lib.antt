@@ -8,3 +8,4 @@ pub mod Lying
 pub mod OpeningLaws
 pub mod EntryOut
 pub mod OpenOut
+pub mod SizedLaws

@@ -10,7 +10,7 @@ use lib.ListN.{length, drop, set}
 use lib.Seq.{sets}
 use Rattle.answers.specs.Answer.{Answer, Accepted, Refusal}
 use Rattle.answers.specs.limits.Limits.{maxFile}
-use Rattle.segment.specs.chain.Last.{Found, openOf}
+use Rattle.segment.specs.chain.Chain.{Found, openOf}
 use Rattle.segment.specs.Header.{Link, size, start, reader}
 use Rattle.manifest.specs.Payload.{confirmed, statesIn}
 use Rattle.manifest.specs.declared.Opened.{Opened}

@@ -7,7 +7,7 @@ use mathlib.Core.List.{List}
 use lib.ListN.{length}
 use borrow.Author.Tests.{le-leb, lt-leb}
 use Rattle.answers.specs.limits.Limits.{maxFile}
-use Rattle.segment.specs.chain.Last.{Found}
+use Rattle.segment.specs.chain.Chain.{Found}
 use Rattle.segment.specs.Header.{Link}
 use Rattle.manifest.specs.Opening.{opened, atOpened, foundCase, openedCase, openedAnswer, openAnswer}
 use Rattle.manifest.specs.declared.Opened.the-variants.{Refused}

@@ -6,3 +6,6 @@ pub mod Zero
 pub mod le
 pub mod text
 pub mod numbers
+pub mod OverLaws
+pub mod RoundLaws
+pub mod ZeroLaws

@@ -8,7 +8,8 @@ use native.Mathlib.Omega.{arith}
 use lib.ListN.{length, take, drop, length-drop, drop-of-length-le}
 use lib.Seq.{take-all, take-take, drop-drop}
 use borrow.Rule.Slice.PartMut.{putMid}
-use Rattle.octets.specs.Over.{over, length-over, over-next}
+use Rattle.octets.specs.Over.{over}
+use Rattle.octets.specs.OverLaws.{length-over, over-next}
 
 -- a part to the end
 pub tail-all : (s : List ℕ) (a : ℕ) → take (length s - a) (drop a s) ≡ drop a s

@@ -1,29 +1,6 @@
 -- Rounding up to a multiple of 64, the alignment of segments and blocks.
 -- Assumes nothing.
-use mathlib.Core.Path.{_≡_}
-use Prim.Native.Nat.{ℕ, _+_, _*_, _/_, _%_, _≤_, _<_}
-use native.Mathlib.Omega.{arith}
+use Prim.Native.Nat.{ℕ, _+_, _*_, _/_}
 
 unfoldable pub round64 : ℕ → ℕ
 round64 n = (n + 63) / 64 * 64
-
-pub round64-ge : (n : ℕ) → n ≤ round64 n
-unfolding round64
-round64-ge n = omega arith
-
-pub round64-lt : (n : ℕ) → round64 n < n + 64
-unfolding round64
-round64-lt n = omega arith
-
-pub round64-mod : (n : ℕ) → round64 n % 64 ≡ 0
-unfolding round64
-round64-mod n = omega arith
-
--- a multiple of 64 stays, and comes out of a sum
-pub round64-add : (p n : ℕ) → p % 64 ≡ 0 → round64 (p + n) ≡ p + round64 n
-unfolding round64
-round64-add p n h = omega arith
-
-pub round64-mono : (m n : ℕ) → m ≤ n → round64 m ≤ round64 n
-unfolding round64
-round64-mono m n h = omega arith

@@ -12,16 +12,17 @@ use native.Mathlib.Decide.{decLe}
 use lib.Dec.{eqb, leb}
 use lib.ListN.{length, take, drop, getD, length-map}
 use lib.Seq.{getD-take, getD-drop, take-suc}
-use Rattle.octets.specs.Zero.{same-equal, and-split}
+use Rattle.octets.specs.ZeroLaws.{same-equal, and-split}
 use Rattle.octets.specs.le.Le.{Bytes, leAt}
 use Rattle.answers.specs.limits.Limits.{maxFile, maxEntries}
-use Rattle.segment.specs.chain.Chain.{sizes}
-use Rattle.segment.specs.chain.Last.{Found, openOf, Stands, last-stands}
+use Rattle.segment.specs.chain.Laws.{sizes}
+use Rattle.segment.specs.chain.Chain.{Found, openOf}
+use Rattle.segment.specs.chain.Last.{Stands, last-stands}
 use Rattle.segment.specs.Header.{Link, whole, size, reader, noLink}
 use Rattle.segment.specs.Chained.{chain, offsetsOf, link-place}
 use Rattle.segment.specs.index.Offsets.{most, linkNo, Stored, stored-has, stored-few}
 use Rattle.segment.specs.index.Numbered.{Numbered, numbered, numbered-at, number-of}
-use Rattle.manifest.specs.Sized.{statesBy-at}
+use Rattle.manifest.specs.SizedLaws.{statesBy-at}
 use Rattle.manifest.specs.Payload.{manifestKind, entrySize, statesHeld, confirmed, manifestPayload, payloadLength, statesIn}
 use Rattle.manifest.specs.Opening.{opened, states, foundCase, openedCase}
 use Rattle.manifest.specs.OpeningLaws.{at-long, at-within}

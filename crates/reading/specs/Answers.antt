@@ -6,7 +6,7 @@ use mathlib.Core.Option.{Option, none, some}
 use mathlib.Core.List.{List, [], _∷_}
 use lib.Dec.{eqb, ltb}
 use Rattle.answers.specs.Write.{writeAnswer, writeBuffer}
-use Rattle.segment.specs.chain.Last.{Found}
+use Rattle.segment.specs.chain.Chain.{Found}
 use Rattle.segment.specs.Header.{Link, whole}
 use Rattle.manifest.specs.Opening.{atOpened}
 use Rattle.vecseg.specs.Payload.{checkOf}

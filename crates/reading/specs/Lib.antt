@@ -6,3 +6,4 @@ pub mod Placed
 pub mod Component
 pub mod Part
 pub mod PartLaws
+pub mod LiveLaws

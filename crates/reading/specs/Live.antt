@@ -1,17 +1,13 @@
 -- The live segments of a file, and the order in which a vector is searched in them.
 -- Assumes nothing.
-use Prim.Native.Nat.{ℕ, suc, _+_, _≤_, _<_}
-use mathlib.Core.Path.{_≡_, refl, ap, _∙_}
-use mathlib.Core.Bool.{Bool, true, false, cond}
+use Prim.Native.Nat.{ℕ}
+use mathlib.Core.Bool.{cond}
 use mathlib.Core.Option.{Option, none, some}
-use mathlib.Core.List.{List, [], _∷_, _++_, reverse, reverse-append}
-use native.Mathlib.Omega.{arith}
+use mathlib.Core.List.{List, [], _∷_, reverse}
 use lib.Dec.{eqb}
-use lib.ListN.{length, take, drop, getD, drop-of-length-le}
-use lib.Seq.{getD-drop, drop-cons, drop-drop, take-length, take-suc, length-take-le}
-use borrow.Author.Tests.{eq-eqb, ne-eqb}
-use Rattle.segment.specs.chain.Last.{Found}
-use Rattle.segment.specs.Header.{Link, noLink}
+use lib.ListN.{drop, getD}
+use Rattle.segment.specs.chain.Chain.{Found}
+use Rattle.segment.specs.Header.{Link}
 use Rattle.manifest.specs.Opening.{states}
 use Rattle.vecseg.specs.Payload.{vecKind}
 
@@ -37,97 +33,3 @@ searchOrder r = reverse (vectorsOf (live r))
 unfoldable pub withId : ℕ → List Link → Option Link
 withId id [] = none
 withId id (l ∷ ls) = cond (eqb (l .id) id) (some l) (withId id ls)
-
--- ---- an entry more, where those before it are passed
-
-module _ (ls : List Link) (ss : List ℕ) (i : ℕ) (h : i < length ls) where
-  from-here : liveOf (drop i ls) (drop i ss)
-      ≡ cond (eqb (getD ss i 0) 0) (getD ls i noLink ∷ liveOf (drop (suc i) ls) (drop (suc i) ss)) (liveOf (drop (suc i) ls) (drop (suc i) ss))
-  unfolding liveOf
-  from-here =
-      let e : i + 0 ≡ i = omega arith in
-      let n : i + 1 ≡ suc i = omega arith in
-      rw (drop-cons ls i noLink h, getD-drop i ss 0 0, e, drop-drop 1 i ss, n)
-
-  pub with-retired : (id : ℕ) → (getD ss i 0 ≡ 0 → ⊥) → withId id (liveOf (drop i ls) (drop i ss)) ≡ withId id (liveOf (drop (suc i) ls) (drop (suc i) ss))
-  with-retired id n = rw (from-here, ne-eqb (getD ss i 0) 0 n)
-
-  pub with-other : (id : ℕ) → (getD ls i noLink .id ≡ id → ⊥) → withId id (liveOf (drop i ls) (drop i ss)) ≡ withId id (liveOf (drop (suc i) ls) (drop (suc i) ss))
-  unfolding withId
-  with-other id n = rw from-here (pick (eqb (getD ss i 0) 0))
-    where
-      pick : (t : Bool)
-          → withId id (cond t (getD ls i noLink ∷ liveOf (drop (suc i) ls) (drop (suc i) ss)) (liveOf (drop (suc i) ls) (drop (suc i) ss)))
-          ≡ withId id (liveOf (drop (suc i) ls) (drop (suc i) ss))
-      pick true = rw (ne-eqb (getD ls i noLink .id) id n)
-      pick false = refl
-
-  pub with-here : (id : ℕ) → getD ss i 0 ≡ 0 → getD ls i noLink .id ≡ id → withId id (liveOf (drop i ls) (drop i ss)) ≡ some (getD ls i noLink)
-  unfolding withId
-  with-here id z e = rw (from-here, eq-eqb (getD ss i 0) 0 z, eq-eqb (getD ls i noLink .id) id e)
-
-pub with-none : (id : ℕ) (ls : List Link) (ss : List ℕ) (i : ℕ) → length ls ≤ i → withId id (liveOf (drop i ls) (drop i ss)) ≡ none
-unfolding withId liveOf
-with-none id ls ss i h = rw (drop-of-length-le ls {i = i} h)
-
--- ---- an entry more, where those behind it are passed
-
--- the order of the first entries of a directory
-unfoldable pub orderOf : List Link → List ℕ → List Link
-orderOf ls ss = reverse (vectorsOf (liveOf ls ss))
-
-pub order-all : (r : Found Link) → orderOf (take (length (r .before)) (r .before)) (states r) ≡ searchOrder r
-unfolding orderOf searchOrder live
-order-all r = rw (take-length (r .before))
-
--- at most one link
-abbrev only : Bool → Link → List Link
-only t l = cond t (l ∷ []) []
-
-live-append : (ls : List Link) (l : Link) (ss : List ℕ) → liveOf (ls ++ l ∷ []) ss ≡ liveOf ls ss ++ only (eqb (getD ss (length ls) 0) 0) l
-unfolding liveOf
-live-append [] l ss = refl
-live-append (x ∷ xs) l ss =
-    let e : getD (drop 1 ss) (length xs) 0 ≡ getD ss (suc (length xs)) 0 = getD-drop 1 ss (length xs) 0 ∙ ap (λ (k : ℕ). getD ss k 0) (omega arith) in
-    let ih : liveOf (xs ++ l ∷ []) (drop 1 ss) ≡ liveOf xs (drop 1 ss) ++ only (eqb (getD ss (suc (length xs)) 0) 0) l = live-append xs l (drop 1 ss) ∙ rw e in
-    rw ih (pick (eqb (getD ss 0 0) 0))
-  where
-    pick : (t : Bool)
-        → cond t (x ∷ (liveOf xs (drop 1 ss) ++ only (eqb (getD ss (suc (length xs)) 0) 0) l)) (liveOf xs (drop 1 ss) ++ only (eqb (getD ss (suc (length xs)) 0) 0) l)
-        ≡ cond t (x ∷ liveOf xs (drop 1 ss)) (liveOf xs (drop 1 ss)) ++ only (eqb (getD ss (suc (length xs)) 0) 0) l
-    pick true = refl
-    pick false = refl
-
-vectors-append : (ls ms : List Link) → vectorsOf (ls ++ ms) ≡ vectorsOf ls ++ vectorsOf ms
-unfolding vectorsOf
-vectors-append [] ms = refl
-vectors-append (x ∷ xs) ms = rw (vectors-append xs ms) (pick (eqb (x .kind) vecKind))
-  where
-    pick : (t : Bool) → cond t (x ∷ (vectorsOf xs ++ vectorsOf ms)) (vectorsOf xs ++ vectorsOf ms) ≡ cond t (x ∷ vectorsOf xs) (vectorsOf xs) ++ vectorsOf ms
-    pick true = refl
-    pick false = refl
-
-module _ (ls : List Link) (ss : List ℕ) (i : ℕ) (h : i < length ls) where
-  more : orderOf (take (suc i) ls) ss ≡ reverse (vectorsOf (only (eqb (getD ss i 0) 0) (getD ls i noLink))) ++ orderOf (take i ls) ss
-  unfolding orderOf
-  more =
-      let n : length (take i ls) ≡ i = length-take-le i ls (omega arith) in
-      let e : liveOf (take (suc i) ls) ss ≡ liveOf (take i ls) ss ++ only (eqb (getD ss i 0) 0) (getD ls i noLink) =
-      ap (λ (xs : List Link). liveOf xs ss) (take-suc ls i noLink h) ∙ live-append (take i ls) (getD ls i noLink) ss ∙ rw n in
-      rw (e, vectors-append) (reverse-append (vectorsOf (liveOf (take i ls) ss)) (vectorsOf (only (eqb (getD ss i 0) 0) (getD ls i noLink))))
-
-  pub order-retired : (getD ss i 0 ≡ 0 → ⊥) → orderOf (take (suc i) ls) ss ≡ orderOf (take i ls) ss
-  unfolding vectorsOf
-  order-retired n = more ∙ rw (ne-eqb (getD ss i 0) 0 n)
-
-  pub order-other : (getD ls i noLink .kind ≡ vecKind → ⊥) → orderOf (take (suc i) ls) ss ≡ orderOf (take i ls) ss
-  unfolding vectorsOf
-  order-other n = more ∙ pick (eqb (getD ss i 0) 0)
-    where
-      pick : (t : Bool) → reverse (vectorsOf (only t (getD ls i noLink))) ++ orderOf (take i ls) ss ≡ orderOf (take i ls) ss
-      pick true = rw (ne-eqb (getD ls i noLink .kind) vecKind n)
-      pick false = refl
-
-  pub order-here : getD ss i 0 ≡ 0 → getD ls i noLink .kind ≡ vecKind → orderOf (take (suc i) ls) ss ≡ getD ls i noLink ∷ orderOf (take i ls) ss
-  unfolding vectorsOf
-  order-here z e = more ∙ rw (eq-eqb (getD ss i 0) 0 z, eq-eqb (getD ls i noLink .kind) vecKind e)

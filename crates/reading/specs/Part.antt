@@ -6,9 +6,10 @@ use Rattle.reading.specs.declared.PayloadPlace.{PayloadPlace}
 use Rattle.reading.specs.declared.PayloadPlace.the-variants.{At, Refused}
 use mathlib.Core.List.{[], _∷_, List}
 use Rattle.answers.specs.Answer.{Answer, Accepted, Refusal}
-use Prim.Native.Nat.{ℕ, _+_}
+use Prim.Native.Nat.{ℕ, _+_, _≤_}
 use mathlib.Core.Path.{_≡_}
 use denote.Ref.{RefT, ptr, now}
+use Rattle.segment.specs.Header.{Link}
 
 unfoldable pub placeOf : Part → PayloadPlace
 placeOf (Handed start bytes) = At start (length bytes)
@@ -29,3 +30,8 @@ pub record IsPart (r f : RefT (List ℕ)) (start len : ℕ) : Type 0 where
 unfoldable pub HandsPart : RefT (List ℕ) → RefT (List ℕ) → Part → Type 0
 HandsPart r f (Handed start bytes) = (now r ≡ bytes) × IsPart r f start (length bytes)
 HandsPart r f (NotHanded n) = now r ≡ []
+
+-- a link's payload is the file's bytes behind its header
+pub record InFile (f : List ℕ) (l : Link) : Type 0 where
+  pub room : l .offset + 64 + length (l .payload) ≤ length f
+  pub bytes : l .payload ≡ take (length (l .payload)) (drop (l .offset + 64) f)

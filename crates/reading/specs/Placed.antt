@@ -12,8 +12,9 @@ use lib.Dec.{eqb}
 use lib.ListN.{length, take, drop, getD, length-drop}
 use lib.Seq.{drop-drop}
 use Rattle.answers.specs.limits.Limits.{maxFile}
-use Rattle.segment.specs.chain.Chain.{All, all-append, all-map}
-use Rattle.segment.specs.chain.Last.{Found, openOf, Stands, last-stands}
+use Rattle.segment.specs.chain.Laws.{All, all-append, all-map}
+use Rattle.segment.specs.chain.Chain.{Found, openOf}
+use Rattle.segment.specs.chain.Last.{Stands, last-stands}
 use Rattle.segment.specs.Header.{Link, whole}
 use Rattle.segment.specs.Laws.{linkFront, Lies, lies}
 use Rattle.segment.specs.Chained.{chain}
@@ -26,11 +27,7 @@ use Rattle.vecseg.specs.Find.{Place, findIn}
 use Rattle.reading.specs.Live.{liveOf, live, vectorsOf, searchOrder, withId}
 use Rattle.reading.specs.Answers.{Handed, NotHanded, partOf, partFound, partIn, Held, Bad, hitFound, hitIn}
 use Rattle.reading.specs.Laws.{Answered, answered, Good}
-
--- a link's payload is the file's bytes behind its header
-pub record InFile (f : List ℕ) (l : Link) : Type 0 where
-  pub room : l .offset + 64 + length (l .payload) ≤ length f
-  pub bytes : l .payload ≡ take (length (l .payload)) (drop (l .offset + 64) f)
+use Rattle.reading.specs.Part.{InFile}
 
 lying-in : (f : List ℕ) (l : Link) → Lying f l → InFile f l
 unfolding linkFront

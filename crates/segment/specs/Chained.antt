@@ -7,7 +7,8 @@ use mathlib.Core.List.{List, [], _∷_, _++_, map}
 use Prim.Native.Nat.{ℕ, _+_, _-_, _≤_}
 use native.Mathlib.Omega.{arith}
 use lib.ListN.{length, take, drop, length-drop}
-use Rattle.segment.specs.chain.Chain.{walk, afters, sizes}
+use Rattle.segment.specs.chain.Chain.{walk}
+use Rattle.segment.specs.chain.Laws.{afters, sizes}
 use Rattle.segment.specs.chain.Walk.{Walked, stateAfter, walk-cons, walk-at, walked-first, walked-next, walked-state, walked-link, walked-stop, walked-all, walked-room}
 use Rattle.segment.specs.declared.Step.the-variants.{Sound, Stop}
 use Rattle.segment.specs.Header.{Link, State, start, reader, linkAt, size, after}

@@ -1,7 +1,7 @@
 -- A segment as document 01 has it ('The chain from byte 0'): a header of 64 bytes, the payload, zeros to a multiple of 64.
 -- The fields stand where document 002, section 3, has them. Definitions only.
 -- Assumes nothing.
-use mathlib.Core.Bool.{Bool, cond, _&&_, _||_}
+use mathlib.Core.Bool.{Bool, cond, _&&_, _||_, true}
 use mathlib.Core.Option.{Option, none, some}
 use mathlib.Core.List.{List, [], _∷_, _++_}
 use Prim.Native.Nat.{ℕ, _+_}
@@ -12,9 +12,7 @@ use Rattle.octets.specs.Round.{round64}
 use Rattle.octets.specs.Zero.{allZero, sameBytes}
 use Rattle.octets.specs.le.Le.{leAt, leBytes}
 use Rattle.crc32c.specs.Crc.{crcOf}
-use Rattle.segment.specs.chain.Chain.{Reader}
-use Rattle.segment.specs.chain.Framed.{framed}
-use Rattle.segment.specs.Tests.{all}
+use Rattle.segment.specs.chain.Chain.{Reader, framed}
 
 -- ---- a header's fields
 
@@ -62,6 +60,11 @@ headTests least h =
     ∷ leb least (idIn h)
     ∷ []
 
+-- every test holds
+unfoldable pub all : List Bool → Bool
+all [] = true
+all (t ∷ ts) = t && all ts
+
 unfoldable pub headSound : ℕ → List ℕ → Bool
 unfolding all
 headSound least h = all (headTests least h)
@@ -77,6 +80,10 @@ pub record Link : Type 0 where
   pub timestamp : ℕ
   pub hash : List ℕ
   pub payload : List ℕ
+
+-- what stands past a list's end; no law depends on it
+abbrev pub noLink : Link
+noLink = record { offset = 0; id = 0; kind = 0; flags = 0; timestamp = 0; hash = []; payload = [] }
 
 -- what a link is read with: where it stands, and the least id that it may have
 pub record State : Type 0 where
@@ -134,7 +141,3 @@ contentHash payload = leBytes 4 (crcOf payload) ++ replicate 12 0
 -- 'A link is whole'
 unfoldable pub whole : Link → Bool
 whole l = sameBytes (l .hash) (contentHash (l .payload))
-
--- what stands past a list's end; no law depends on it
-abbrev pub noLink : Link
-noLink = record { offset = 0; id = 0; kind = 0; flags = 0; timestamp = 0; hash = []; payload = [] }

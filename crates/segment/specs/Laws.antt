@@ -10,15 +10,17 @@ use lib.Dec.{lit<}
 use lib.ListN.{length, take, drop, length-drop}
 use lib.Seq.{take-take, length-take-le, getD-take}
 use borrow.Author.Tests.{leb-true}
-use Rattle.octets.specs.Round.{round64, round64-ge, round64-mod}
+use Rattle.octets.specs.Round.{round64}
+use Rattle.octets.specs.RoundLaws.{round64-ge, round64-mod}
 use Rattle.octets.specs.Parts.{part-front}
 use Rattle.octets.specs.le.Le.{leOf, leAt}
-use Rattle.segment.specs.chain.Chain.{Format, walk, afters, sizes}
+use Rattle.segment.specs.chain.Chain.{walk}
+use Rattle.segment.specs.chain.Laws.{Format, afters, sizes}
 use Rattle.segment.specs.chain.Framed.{framed-format, framed-is, cond-some}
 use Rattle.segment.specs.chain.Walk.{walk-each}
 use Rattle.segment.specs.chain.Search.{Aligned}
 use Rattle.segment.specs.Tests.{all-at}
-use Rattle.octets.specs.Zero.{and-split}
+use Rattle.octets.specs.ZeroLaws.{and-split}
 use Rattle.segment.specs.Header.{Link, State, reader, read, linkAt, linkIn, sizeAt, size, after, sound, headSound, headTests, lengthIn, idIn, kindIn, flagsIn, timestampIn, hashIn}
 
 at-least : (h : List ℕ) → 64 ≤ sizeAt h

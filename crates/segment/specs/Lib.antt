@@ -12,3 +12,4 @@ pub mod Written
 pub mod chain
 pub mod index
 pub mod write
+pub mod WrittenLaws

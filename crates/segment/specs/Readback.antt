@@ -10,14 +10,16 @@ use lib.ListN.{length, take, drop}
 use lib.Seq.{take-at, drop-at, drop-drop, take-append-seam, drop-append-seam, drop-length}
 use borrow.Author.Tests.{le-leb}
 use Rattle.octets.specs.Round.{round64}
-use Rattle.octets.specs.Zero.{allZero, sameBytes, zeros-all, equal-same}
+use Rattle.octets.specs.Zero.{allZero, sameBytes}
+use Rattle.octets.specs.ZeroLaws.{zeros-all, equal-same}
 use Rattle.octets.specs.le.Le.{leBytes}
 use Rattle.octets.specs.le.Laws.{leOf-leBytes}
-use Rattle.segment.specs.chain.Chain.{extend, Exact, done, more}
+use Rattle.segment.specs.chain.Laws.{extend, Exact, done, more}
 use Rattle.segment.specs.chain.Framed.{framed-whole}
-use Rattle.segment.specs.Tests.{all}
+use Rattle.segment.specs.Header.{all}
 use Rattle.segment.specs.Header.{State, reader, read, linkAt, linkIn, sizeAt, size, sound, headSound, typeHeld, flagsHeld, contentHash, whole, lengthIn, idIn, kindIn, flagsIn, timestampIn, hashIn}
-use Rattle.segment.specs.Written.{headerOf, header, padding, segment, linkOf, header-length, segment-length}
+use Rattle.segment.specs.Written.{headerOf, header, padding, segment, linkOf}
+use Rattle.segment.specs.WrittenLaws.{header-length, segment-length}
 use Rattle.segment.specs.Laws.{segment-format}
 
 -- what the fields of a segment may be, with the least id that it may have

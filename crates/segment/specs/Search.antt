@@ -8,8 +8,8 @@ use mathlib.Core.List.{List, [], _∷_, _++_, append-assoc}
 use Prim.Native.Nat.{ℕ, _+_, _*_, _/_, _%_, _≤_, _<_}
 use native.Mathlib.Omega.{arith}
 use lib.ListN.{length, take, drop, take-append-drop}
-use Rattle.segment.specs.chain.Chain.{sizes}
-use Rattle.segment.specs.chain.Last.{lastConfirmed, scan, openOf}
+use Rattle.segment.specs.chain.Laws.{sizes}
+use Rattle.segment.specs.chain.Chain.{lastConfirmed, scan, openOf}
 use Rattle.segment.specs.chain.Places.{same-place, later-place, within}
 use Rattle.segment.specs.chain.Walk.{walk-fits, walk-each}
 use Rattle.segment.specs.chain.Search.{below, below-all, below-zero, boundary-down, boundary-found}

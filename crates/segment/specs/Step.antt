@@ -10,11 +10,12 @@ use native.Mathlib.Omega.{arith}
 use lib.ListN.{length, take, drop, getD, length-drop}
 use lib.Seq.{take-take, drop-drop, length-take-le, getD-take}
 use borrow.Author.Tests.{lt-leb, le-leb}
-use Rattle.octets.specs.Over.{drop-take}
+use Rattle.octets.specs.OverLaws.{drop-take}
 use Rattle.octets.specs.Zero.{sameBytes, allZero}
-use Rattle.octets.specs.Round.{round64, round64-ge}
+use Rattle.octets.specs.Round.{round64}
+use Rattle.octets.specs.RoundLaws.{round64-ge}
 use Rattle.octets.specs.le.Le.{leAt}
-use Rattle.segment.specs.chain.Framed.{framed}
+use Rattle.segment.specs.chain.Chain.{framed}
 use Rattle.segment.specs.declared.Step.{Step}
 use Rattle.segment.specs.declared.Step.the-variants.{Sound, Stop}
 use Rattle.segment.specs.Header.{Link, State, linkAt, size, hashIn, contentHash, read, sizeAt, sound, headSound, lengthIn, idIn, kindIn, flagsIn, whole}

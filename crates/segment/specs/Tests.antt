@@ -1,16 +1,12 @@
 -- A list of tests, each of which must hold.
 -- Assumes nothing.
 use mathlib.Core.Path.{_≡_, refl}
-use mathlib.Core.Bool.{Bool, true, false, _&&_, and-false}
+use mathlib.Core.Bool.{Bool, true, false, and-false}
 use mathlib.Core.List.{List, [], _∷_}
 use Prim.Native.Nat.{ℕ, zero, suc}
 use lib.ListN.{getD}
-use Rattle.octets.specs.Zero.{and-split}
-
--- every test holds
-unfoldable pub all : List Bool → Bool
-all [] = true
-all (t ∷ ts) = t && all ts
+use Rattle.octets.specs.ZeroLaws.{and-split}
+use Rattle.segment.specs.Header.{all}
 
 -- where all hold each holds
 pub all-at : (ts : List Bool) (i : ℕ) → all ts ≡ true → getD ts i true ≡ true

@@ -1,6 +1,7 @@
 -- Chains of links, for any format of a link: the walk, links with a head that gives their size, the last confirmed link, walking by a loop, the places
 -- of links, and searching from the end.
 pub mod Chain
+pub mod Laws
 pub mod Framed
 pub mod Last
 pub mod Places

@@ -9,7 +9,8 @@ use native.Mathlib.Omega.{arith}
 use lib.ListN.{length, getD, take, drop, set, length-drop}
 use lib.Seq.{drop-cons, take-suc, take-length, length-take-le}
 use borrow.Author.Tests.{lt-ltb, le-ltb}
-use Rattle.octets.specs.Over.{over, over-turn}
+use Rattle.octets.specs.Over.{over}
+use Rattle.octets.specs.OverLaws.{over-turn}
 use Rattle.varint.specs.Varint.{leb128, varintOf}
 
 pub leb-last : (k n : ℕ) → n < 128 → leb128 (suc k) n ≡ n ∷ []

@@ -10,7 +10,7 @@ use lib.ListN.{length, take, drop, length-append}
 use lib.Seq.{take-at, drop-at}
 use borrow.Author.Tests.{le-leb}
 use Rattle.octets.specs.Round.{round64}
-use Rattle.octets.specs.Zero.{zeros-all}
+use Rattle.octets.specs.ZeroLaws.{zeros-all}
 use Rattle.octets.specs.le.Le.{leOf, leBytes}
 use Rattle.octets.specs.le.Laws.{leOf-leBytes}
 use Rattle.vecseg.specs.Payload.{Line, lineOf, blockCount, filled}

@@ -8,8 +8,10 @@ use native.Mathlib.Omega.{arith}
 use lib.ListN.{length, take, drop, replicate, length-append, length-replicate}
 use lib.Seq.{take-at, drop-at, take-all}
 use borrow.Author.Tests.{le-leb, lt-ltb, eq-eqb}
-use Rattle.octets.specs.Round.{round64, round64-ge}
-use Rattle.octets.specs.Zero.{allZero, zeros-all}
+use Rattle.octets.specs.Round.{round64}
+use Rattle.octets.specs.RoundLaws.{round64-ge}
+use Rattle.octets.specs.Zero.{allZero}
+use Rattle.octets.specs.ZeroLaws.{zeros-all}
 use Rattle.octets.specs.le.Le.{leOf, leBytes, Bytes}
 use Rattle.octets.specs.le.Laws.{bytes-append, length-leBytes, leOf-leBytes}
 use Rattle.crc32c.specs.Crc.{crcOf}

@@ -8,9 +8,11 @@ use native.Mathlib.Omega.{arith}
 use lib.ListN.{length, take, drop, replicate, length-append, length-drop, length-replicate}
 use lib.Seq.{drop-drop, length-take-le}
 use borrow.Rule.Slice.PartMut.{putMid}
-use Rattle.octets.specs.Over.{over, over-then, over-at, length-over}
+use Rattle.octets.specs.Over.{over}
+use Rattle.octets.specs.OverLaws.{over-then, over-at, length-over}
 use Rattle.octets.specs.Parts.{back}
-use Rattle.octets.specs.Round.{round64, round64-ge}
+use Rattle.octets.specs.Round.{round64}
+use Rattle.octets.specs.RoundLaws.{round64-ge}
 use Rattle.octets.specs.le.Le.{leBytes}
 use Rattle.octets.specs.le.Laws.{length-leBytes}
 use Rattle.crc32c.specs.Crc.{crcOf}

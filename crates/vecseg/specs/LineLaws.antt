@@ -10,7 +10,7 @@ use lib.Dec.{eqb, leb, ltb}
 use lib.ListN.{getD, drop}
 use lib.Seq.{drop-drop, getD-drop}
 use borrow.Author.Tests.{le-leb, lt-leb, lt-ltb, ne-eqb, leb-true, ltb-true}
-use Rattle.octets.specs.Zero.{and-split}
+use Rattle.octets.specs.ZeroLaws.{and-split}
 use Rattle.octets.specs.le.Le.{leAt}
 use Rattle.answers.specs.limits.Limits.{maxVectors, maxDim}
 use Rattle.vecseg.specs.Payload.{Line, lineOf, width, lineBad, firstOf, linesBad}

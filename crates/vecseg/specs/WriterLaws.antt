@@ -12,7 +12,7 @@ use native.Mathlib.Omega.{arith}
 use lib.Dec.{eqb, leb, ltb}
 use borrow.Author.Tests.{leb-true, ltb-true, eqb-true}
 use Rattle.answers.specs.limits.Limits.{maxDim}
-use Rattle.octets.specs.Zero.{and-split}
+use Rattle.octets.specs.ZeroLaws.{and-split}
 use Rattle.idmap.specs.Accepted.{good}
 use Rattle.vecseg.specs.Writer.{vecBad}
 

@@ -13,9 +13,8 @@ use Rattle.octets.specs.Round.{round64}
 use Rattle.octets.specs.Zero.{allZero}
 use Rattle.octets.specs.le.Le.{leOf}
 use Rattle.answers.specs.Answer.{Accepted}
-use Rattle.segment.specs.chain.Chain.{walk, walkF}
+use Rattle.segment.specs.chain.Chain.{walk, walkF, Found, upTo, lastConfirmed, openOf, scan}
 use Rattle.segment.specs.chain.Last as last
-use Rattle.segment.specs.chain.Last.{Found, upTo}
 use Rattle.segment.specs.Header.{Link, typeHeld, flagsHeld}
 use Rattle.manifest.specs.Sized.{recordBy}
 use Rattle.manifest.specs.Payload.{payloadLength}
@@ -41,7 +40,7 @@ unfolding leOf allZero typeHeld flagsHeld bodyKindHeld lineHeld linesHeld bodyCo
 open-batch = tt
 
 nothing-opens : opened [] ≡ none
-unfolding opened last.openOf walk walkF last.lastConfirmed last.scan
+unfolding opened openOf walk walkF lastConfirmed scan
 nothing-opens = refl
 
 no-bodies : bodiesOf noBodies ≡ []

@@ -10,8 +10,7 @@ use Rattle.octets.specs.le.Le.{leBytes}
 use Rattle.varint.specs.declared.Varint.the-variants.{Refused}
 use Rattle.varint.specs.Varint.{leb128, varintOf, more, decode, below64, readVarint}
 use Rattle.idmap.specs.Encode.{mapHead, deltaOf, leftAfter, deltas, restartOf, restarts, intervalOf, mapBytes}
-use Rattle.segment.specs.chain.Chain.{walk, walkF}
-use Rattle.segment.specs.chain.Last.{scan, lastConfirmed, openOf}
+use Rattle.segment.specs.chain.Chain.{walk, walkF, scan, lastConfirmed, openOf}
 use Rattle.batch.specs.Form.{bodiesOf}
 use Rattle.appending.specs.Append.{manifestAt, appendAnswer, Appends}
 use Rattle.worked.specs.Ends.{noBodies, oneBody, empty-end, manifest-place, body-end, then-empty}

@@ -8,10 +8,12 @@ use native.Mathlib.Nat.{add-zero}
 use native.Mathlib.Numerals.{add-one}
 use lib.ListN.{length, take, drop, getD, set, length-map, length-set, take-append-drop}
 use lib.Seq.{take-suc, take-length, length-take-le}
-use Rattle.octets.specs.Over.{over, over-none, over-then, over-turn, length-over}
+use Rattle.octets.specs.Over.{over}
+use Rattle.octets.specs.OverLaws.{over-none, over-then, over-turn, length-over}
 use Rattle.octets.specs.Round.{round64}
 use Rattle.segment.specs.Header.{Link}
-use Rattle.segment.specs.Written.{segment, linkOf, segment-length}
+use Rattle.segment.specs.Written.{segment, linkOf}
+use Rattle.segment.specs.WrittenLaws.{segment-length}
 use Rattle.segment.specs.Chained.{offsetsOf}
 use Rattle.batch.specs.Form.{Body}
 use Rattle.appending.specs.Append.{bodySize, bodyLinks, bodyBytes, bodiesEnd}

@@ -6,11 +6,13 @@ use mathlib.Core.List.{List}
 use native.Mathlib.Omega.{arith}
 use lib.ListN.{length, take, drop, getD}
 use borrow.Rule.Slice.PartMut.{putMid}
-use Rattle.octets.specs.Over.{over, over-at}
+use Rattle.octets.specs.Over.{over}
+use Rattle.octets.specs.OverLaws.{over-at}
 use Rattle.octets.specs.Parts.{back}
 use Rattle.octets.specs.Round.{round64}
 use Rattle.octets.specs.le.Le.{leAt}
-use Rattle.segment.specs.Written.{segment, segment-length}
+use Rattle.segment.specs.Written.{segment}
+use Rattle.segment.specs.WrittenLaws.{segment-length}
 use Rattle.manifest.specs.Sized.{recordBy}
 use Rattle.manifest.specs.Payload.{payloadLength}
 use Rattle.batch.specs.Form.{bodiesOf}

@@ -9,13 +9,15 @@ use mathlib.Core.List.{List, [], _++_, append-nil, append-assoc}
 use native.Mathlib.Omega.{arith}
 use lib.ListN.{length, take, drop, length-append, length-map}
 use lib.Seq.{take-all, take-at, length-take-le}
-use Rattle.octets.specs.Over.{over, over-then}
+use Rattle.octets.specs.Over.{over}
+use Rattle.octets.specs.OverLaws.{over-then}
 use Rattle.answers.specs.limits.Limits.{maxFile}
 use Rattle.octets.specs.le.Le.{Bytes}
-use Rattle.segment.specs.chain.Chain as C
-use Rattle.segment.specs.chain.Chain.{All}
+use Rattle.segment.specs.chain.Laws as C
+use Rattle.segment.specs.chain.Laws.{All}
 use Rattle.segment.specs.chain.Last as last
-use Rattle.segment.specs.chain.Last.{Found, last-upTo}
+use Rattle.segment.specs.chain.Chain.{Found, lastConfirmed, openOf, walk}
+use Rattle.segment.specs.chain.Last.{last-upTo}
 use Rattle.segment.specs.Header.{Link, start, reader}
 use Rattle.segment.specs.Laws.{segment-format}
 use Rattle.segment.specs.Chained.{chain, offsetsOf}
@@ -44,11 +46,11 @@ pub record Base (g offsets : List ℕ) (begin kept-count : ℕ) (first : Bool) (
 -- ---- opening what is kept finds the same
 
 pub kept-opens : (f : List ℕ) → opened (take (startOf (opened f)) f) ≡ opened f
-unfolding opened last.openOf
+unfolding opened openOf
 kept-opens f =
-    ap (λ (x : List ℕ). last.openOf reader confirmed start x) (sym (kept-is f))
-    ∙ ap (last.lastConfirmed confirmed) (C.walk-all reader segment-format (last.kept-exact reader confirmed start segment-format f))
-    ∙ last-upTo confirmed (C.walk reader start f)
+    ap (λ (x : List ℕ). openOf reader confirmed start x) (sym (kept-is f))
+    ∙ ap (lastConfirmed confirmed) (C.walk-all reader segment-format (last.kept-exact reader confirmed start segment-format f))
+    ∙ last-upTo confirmed (walk reader start f)
 
 -- ---- the bytes up to the new manifest
 
@@ -67,7 +69,7 @@ module _ (g offsets : List ℕ) (begin kept-count : ℕ) (first : Bool) (last-id
   chain-front : chain front ≡ newLinks o bs ts
   unfolding newLinks opened
   chain-front =
-      ap (λ (x : List ℕ). C.walk reader start (x ++ bodyBytes (nextId o) ts bs)) (sym all-kept)
+      ap (λ (x : List ℕ). walk reader start (x ++ bodyBytes (nextId o) ts bs)) (sym all-kept)
       ∙ last.walk-append reader confirmed start segment-format g (bodyBytes (nextId o) ts bs) (bodyLinks (startOf o) (nextId o) ts bs)
       (rw (kept g .state) (bodies-exact ts ts-fits (startOf o) (nextId o) bs t ids-fit (rw (y .start-is) (omega arith))))
 

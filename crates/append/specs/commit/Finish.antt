@@ -9,13 +9,16 @@ use mathlib.Core.List.{List, _++_}
 use native.Mathlib.Omega.{arith}
 use lib.Dec.{leb}
 use lib.ListN.{length, take, drop, length-take}
-use Rattle.octets.specs.Zero.{allZero, and-split}
-use Rattle.octets.specs.Over.{over, length-over}
-use Rattle.octets.specs.Round.{round64, round64-lt}
+use Rattle.octets.specs.Zero.{allZero}
+use Rattle.octets.specs.ZeroLaws.{and-split}
+use Rattle.octets.specs.Over.{over}
+use Rattle.octets.specs.OverLaws.{length-over}
+use Rattle.octets.specs.Round.{round64}
+use Rattle.octets.specs.RoundLaws.{round64-lt}
 use Rattle.answers.specs.limits.Limits.{maxFile, maxBatch, maxBodies}
 use Rattle.octets.specs.le.Le.{Bytes}
 use Rattle.octets.specs.le.Laws.{bytes-take}
-use Rattle.segment.specs.chain.Last.{Found}
+use Rattle.segment.specs.chain.Chain.{Found}
 use Rattle.segment.specs.Header.{Link}
 use Rattle.segment.specs.Written.{segment}
 use Rattle.segment.specs.Chained.{offsetsOf}

@@ -15,7 +15,7 @@ use Rattle.octets.specs.Round.{round64}
 use Rattle.octets.specs.Over.{over}
 use Rattle.answers.specs.limits.Limits.{maxFile, maxEntries}
 use Rattle.answers.specs.Answer.{Answer, Accepted, Refusal}
-use Rattle.segment.specs.chain.Last.{Found}
+use Rattle.segment.specs.chain.Chain.{Found}
 use Rattle.segment.specs.Header.{Link}
 use Rattle.segment.specs.Written.{segment}
 use Rattle.manifest.specs.Sized.{recordBy}

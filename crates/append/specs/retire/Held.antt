@@ -6,7 +6,7 @@ use mathlib.Core.Bool.{Bool, true, false, not, _&&_, _||_, or-assoc, or-false, t
 use mathlib.Core.List.{List, [], _∷_, _++_}
 use lib.Dec.{eqb}
 use borrow.Author.Tests.{eq-eqb, ne-eqb, eqb-true, eqb-false}
-use Rattle.octets.specs.Zero.{and-split}
+use Rattle.octets.specs.ZeroLaws.{and-split}
 use Rattle.batch.specs.Form.{member}
 use Rattle.append.specs.retire.Marks.{retirableBy, retireHeldBy}
 

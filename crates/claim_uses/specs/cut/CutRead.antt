@@ -17,7 +17,8 @@ use Rattle.reading.specs.Answers.{vectorCase, vectorAfter}
 use Rattle.batch.specs.Form.{bodiesOf}
 use Rattle.appending.specs.Append.{startOf, manifestAt, newEnd, appendAnswer, appendBuffer, Appends, appendedAnswer}
 use Rattle.appending.specs.Written.{bodiesEnd-ge}
-use Rattle.appending.specs.Buffer.{Holds, Appended, appended}
+use Rattle.appending.specs.Append.{Holds}
+use Rattle.appending.specs.Buffer.{Appended, appended}
 use Rattle.appending.specs.declared.Appended as answer
 use Rattle.appending.specs.declared.Appended.the-variants as append
 use Rattle.append.specs.Ways.{way-room}

@@ -15,7 +15,8 @@ use Rattle.appending.specs.declared.Appended.{Appended}
 use Rattle.appending.specs.declared.Appended.the-variants as aps
 use Rattle.appending.specs.Append.{appendedAnswer, newEnd, appendAnswer, appendBuffer, Appends}
 use Rattle.appending.specs.Buffer as buffer
-use Rattle.appending.specs.Buffer.{Holds, with-length, file-is}
+use Rattle.appending.specs.Append.{Holds}
+use Rattle.appending.specs.Buffer.{with-length, file-is}
 use Rattle.claim.specs.Model.{Entry, newManifestEntry, acceptedModel, feed, feedAll}
 use Rattle.claim.specs.Runs.{Call, fedAll, isAccepted, fileAfter, Run, stop, call}
 use Rattle.claim.specs.Reports.{orBefore, ifAccepted, lastAccepted}

@@ -9,13 +9,15 @@ use native.Mathlib.Omega.{arith}
 use lib.ListN.{length, take, drop, getD, set, replicate, length-append, length-drop, length-replicate}
 use lib.Seq.{drop-drop, length-take-le, take-all, getD-take}
 use borrow.Rule.Slice.PartMut.{putMid}
-use Rattle.octets.specs.Over.{over, over-none, over-turn, over-then, over-at, length-over}
+use Rattle.octets.specs.Over.{over}
+use Rattle.octets.specs.OverLaws.{over-none, over-turn, over-then, over-at, length-over}
 use Rattle.octets.specs.Parts.{back}
 use Rattle.octets.specs.Round.{round64}
 use Rattle.octets.specs.le.Le.{leBytes}
 use Rattle.octets.specs.le.Laws.{length-leBytes}
 use Rattle.crc32c.specs.Crc.{crcOf}
-use Rattle.manifest.specs.Sized.{entriesOf, entriesOf-more}
+use Rattle.manifest.specs.Sized.{entriesOf}
+use Rattle.manifest.specs.SizedLaws.{entriesOf-more}
 use Rattle.manifest.specs.Payload.{entrySize, recordEnd, payloadLength, rootBytes, root}
 use Rattle.manifest.specs.At.{Inside, entryAt, entriesAt, recordHead, fill, payloadAt, length-entriesAt, length-recordHead, length-fill, length-rootBytes, length-root, record-ge}
 

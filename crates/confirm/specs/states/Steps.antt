@@ -9,11 +9,14 @@ use native.Mathlib.Omega.{arith}
 use lib.ListN.{length, take, drop, getD, set, length-set, length-drop, drop-of-length-le}
 use lib.Seq.{drop-cons, getD-drop, length-take-le}
 use borrow.Author.Tests.{ne-eqb, lt-leb, le-leb}
-use Rattle.octets.specs.Over.{over, over-none, over-front, over-at}
+use Rattle.octets.specs.Over.{over}
+use Rattle.octets.specs.OverLaws.{over-none, over-front, over-at}
 use Rattle.octets.specs.Round.{round64}
-use Rattle.octets.specs.Zero.{sameBytes, same-length}
+use Rattle.octets.specs.Zero.{sameBytes}
+use Rattle.octets.specs.ZeroLaws.{same-length}
 use Rattle.segment.specs.Step.{wholeAt}
-use Rattle.manifest.specs.Sized.{recordBy, statesBy, length-statesBy, statesBy-more}
+use Rattle.manifest.specs.Sized.{recordBy, statesBy}
+use Rattle.manifest.specs.SizedLaws.{length-statesBy, statesBy-more}
 use Rattle.manifest.specs.Payload.{entrySize, statesIn, payloadLength}
 use Rattle.manifest.specs.At.{Inside, payloadAt, length-payloadAt, record-ge}
 use Rattle.confirm.specs.states.At.{stateOf, statesHeldAt, payloadIn, statesOf, confirmedAt}

@@ -6,7 +6,8 @@ use native.Mathlib.Numerals.{add-one}
 use native.Mathlib.Omega.{arith}
 use lib.ListN.{length, take}
 use lib.Seq.{take-suc, length-take-le}
-use Rattle.octets.specs.Over.{over, over-none, over-front}
+use Rattle.octets.specs.Over.{over}
+use Rattle.octets.specs.OverLaws.{over-none, over-front}
 use borrow.Author.Needs.{needs}
 use Rattle.idmap_read.proofs.copy_ids.Statement.{statement}
 use Rattle.idmap_read.proofs.copy_ids.Tie as tie

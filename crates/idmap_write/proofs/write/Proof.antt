@@ -2,7 +2,7 @@
 -- Assumes nothing.
 use mathlib.Core.Path.{_≡_, sym, _∙_}
 use native.Mathlib.Omega.{arith}
-use Rattle.answers.specs.Write.{write-bad, write-short, write-done}
+use Rattle.answers.specs.WriteLaws.{write-bad, write-short, write-done}
 use borrow.Author.Needs.{needs}
 use Rattle.idmap_write.proofs.write.Statement.{statement}
 use Rattle.idmap_write.proofs.write.Tie as tie

@@ -9,7 +9,7 @@ use native.Mathlib.Numerals.{add-one}
 use lib.ListN.{length, take, getD}
 use lib.Seq.{take-suc, take-length, length-take-le}
 use Rattle.octets.specs.text.Written.{Written, nothing, then}
-use Rattle.segment.specs.chain.Last.{Found}
+use Rattle.segment.specs.chain.Chain.{Found}
 use Rattle.segment.specs.Header.{Link, noLink}
 use Rattle.segment.specs.index.Offsets.{linkNo}
 use Rattle.manifest.specs.Opening.{opened, states}

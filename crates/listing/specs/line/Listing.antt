@@ -7,7 +7,7 @@ use mathlib.Core.List.{List, [], _∷_, _++_}
 use lib.Dec.{eqb, leb}
 use lib.ListN.{length, drop, getD}
 use Rattle.octets.specs.text.Text.{ascii, decimal}
-use Rattle.segment.specs.chain.Last.{Found}
+use Rattle.segment.specs.chain.Chain.{Found}
 use Rattle.segment.specs.Header.{Link, whole, size}
 use Rattle.manifest.specs.Opening.{opened, states, tried}
 

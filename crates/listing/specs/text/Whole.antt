@@ -8,9 +8,11 @@ use native.Mathlib.Nat.{zero-add}
 use native.Mathlib.Omega.{arith}
 use lib.ListN.{length, take}
 use borrow.Author.Tests.{le-leb, lt-leb}
-use Rattle.octets.specs.Over.{over, over-at}
+use Rattle.octets.specs.Over.{over}
+use Rattle.octets.specs.OverLaws.{over-at}
 use Rattle.octets.specs.le.Le.{Bytes, leAt}
-use Rattle.answers.specs.Write.{writeAnswer, writeBuffer, write-short, write-done}
+use Rattle.answers.specs.Write.{writeAnswer, writeBuffer}
+use Rattle.answers.specs.WriteLaws.{write-short, write-done}
 use Rattle.answers.specs.declared.Wrote.the-variants.{Length, Refused}
 use Rattle.answers.specs.limits.Limits.{maxEntries}
 use Rattle.octets.specs.text.Text.{ascii, decimal}

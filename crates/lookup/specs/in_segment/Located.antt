@@ -11,7 +11,7 @@ use lib.ListN.{length, take, drop, getD}
 use borrow.Author.Tests.{ne-eqb}
 use Rattle.octets.specs.le.Le.{leAt}
 use Rattle.answers.specs.limits.Limits.{maxFile}
-use Rattle.segment.specs.chain.Last.{Found}
+use Rattle.segment.specs.chain.Chain.{Found}
 use Rattle.segment.specs.Header.{Link, whole}
 use Rattle.segment.specs.Step.{wholeAt}
 use Rattle.segment.specs.index.Offsets.{linkNo}
@@ -23,7 +23,8 @@ use Rattle.vecseg.specs.Payload.{vecKind, checkOf}
 use Rattle.vecseg.specs.Find.{Place, findIn}
 use Rattle.vec_read.specs.find.Found.{foundOf}
 use Rattle.vec_read.specs.declared.find.Found.the-variants.{At, Missing as NotFound}
-use Rattle.reading.specs.Live.{liveOf, vectorsOf, searchOrder, orderOf, order-all, order-retired, order-other, order-here}
+use Rattle.reading.specs.Live.{liveOf, vectorsOf, searchOrder}
+use Rattle.reading.specs.LiveLaws.{orderOf, order-all, order-retired, order-other, order-here}
 use Rattle.reading.specs.Answers.{Hit, Held, Missing, Bad, hitOf, lookIn, orElse, searchIn, hitFound, hitIn}
 use Rattle.lookup.specs.declared.in_segment.Located.{Located}
 use Rattle.lookup.specs.declared.in_segment.Located.the-variants.{In, Nowhere, Refused}

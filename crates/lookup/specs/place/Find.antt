@@ -10,14 +10,15 @@ use native.Mathlib.Numerals.{add-one}
 use lib.ListN.{length, drop, getD}
 use Rattle.octets.specs.le.Le.{leAt}
 use Rattle.answers.specs.limits.Limits.{maxFile}
-use Rattle.segment.specs.chain.Last.{Found}
+use Rattle.segment.specs.chain.Chain.{Found}
 use Rattle.segment.specs.Header.{Link, whole, noLink}
 use Rattle.segment.specs.Step.{wholeAt}
 use Rattle.segment.specs.index.Offsets.{linkNo}
 use Rattle.manifest.specs.Opening.{opened, states}
 use Rattle.manifest.specs.OpeningLaws.{at-long, at-within}
 use Rattle.opening.specs.Indexed.{ManifestAt, EntryAt}
-use Rattle.reading.specs.Live.{liveOf, live, withId, with-retired, with-other, with-here, with-none}
+use Rattle.reading.specs.Live.{liveOf, live, withId}
+use Rattle.reading.specs.LiveLaws.{with-retired, with-other, with-here, with-none}
 use Rattle.reading.specs.Answers.{Handed, NotHanded, partOf, partFound, partIn}
 use Rattle.reading.specs.declared.PayloadPlace.the-variants.{At, Refused}
 use Rattle.reading.specs.Part.{placeOf}

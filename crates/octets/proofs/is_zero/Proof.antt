@@ -6,7 +6,8 @@ use mathlib.Core.Bool.{_&&_}
 use native.Mathlib.Numerals.{add-one}
 use lib.Dec.{eqb}
 use lib.ListN.{length, drop}
-use Rattle.octets.specs.Zero.{allZero, zero-turn, zero-end}
+use Rattle.octets.specs.Zero.{allZero}
+use Rattle.octets.specs.ZeroLaws.{zero-turn, zero-end}
 use borrow.Author.Needs.{needs}
 use Rattle.octets.proofs.is_zero.Statement.{statement}
 use Rattle.octets.proofs.is_zero.Tie as tie

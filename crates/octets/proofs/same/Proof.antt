@@ -7,7 +7,8 @@ use native.Mathlib.Numerals.{add-one}
 use native.Mathlib.Omega.{arith}
 use lib.Dec.{eqb}
 use lib.ListN.{length, drop}
-use Rattle.octets.specs.Zero.{sameBytes, same-turn, same-end, same-length}
+use Rattle.octets.specs.Zero.{sameBytes}
+use Rattle.octets.specs.ZeroLaws.{same-turn, same-end, same-length}
 use borrow.Author.Needs.{needs}
 use Rattle.octets.proofs.same.Statement.{statement}
 use Rattle.octets.proofs.same.Tie as tie

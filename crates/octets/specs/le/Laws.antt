@@ -9,7 +9,8 @@ use native.Mathlib.Omega.{arith}
 use lib.Dec.{lit<}
 use lib.ListN.{length, take, drop, getD, set}
 use lib.Seq.{drop-cons, take-at, getD-drop}
-use Rattle.octets.specs.Over.{over, over-none, over-turn, over-long}
+use Rattle.octets.specs.Over.{over}
+use Rattle.octets.specs.OverLaws.{over-none, over-turn, over-long}
 use Rattle.octets.specs.le.Le.{leOf, leAt, leBytes, Bytes}
 
 -- ---- bytes

@@ -5,8 +5,10 @@ use mathlib.Core.Path.{_≡_, refl, sym, ap, _∙_}
 use mathlib.Core.List.{List, [], _∷_, _++_}
 use native.Mathlib.Omega.{arith}
 use lib.ListN.{length, set, length-append}
-use Rattle.octets.specs.Over.{over, over-none, over-then, over-turn, length-over}
-use Rattle.octets.specs.text.Text.{decimal, decimal-one, decimal-more}
+use Rattle.octets.specs.Over.{over}
+use Rattle.octets.specs.OverLaws.{over-none, over-then, over-turn, length-over}
+use Rattle.octets.specs.text.Text.{decimal}
+use Rattle.octets.specs.text.TextLaws.{decimal-one, decimal-more}
 
 -- the buffer is as it was, but that xs stands in it from `at` to `end`
 pub record Written (old new : List ℕ) (at : ℕ) (xs : List ℕ) (end : ℕ) : Type 0 where

@@ -4,7 +4,8 @@ use Prim.Native.Nat.{_-_, _/_}
 use mathlib.Core.Path.{_≡_, sym, ap, _∙_}
 use native.Mathlib.Omega.{arith}
 use lib.ListN.{length}
-use Rattle.octets.specs.Round.{round64, round64-lt}
+use Rattle.octets.specs.Round.{round64}
+use Rattle.octets.specs.RoundLaws.{round64-lt}
 use Rattle.segment.specs.Header.{size}
 use Rattle.segment.specs.index.Offsets.{stored-few}
 use Rattle.segment.specs.index.Down.{DownAt, down-first, down-skip, down-not, down-found, down-none, down-link}

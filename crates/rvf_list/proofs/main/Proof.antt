@@ -3,7 +3,7 @@
 use mathlib.Core.Path.{sym, _∙_}
 use native.Mathlib.Omega.{arith}
 use lib.Seq.{length-take-le}
-use Rattle.answers.specs.Write.{wrote-within}
+use Rattle.answers.specs.WriteLaws.{wrote-within}
 use borrow.Author.Needs.{needs}
 use Rattle.rvf_list.proofs.main.Statement.{statement}
 use Rattle.rvf_list.proofs.main.Tie as tie

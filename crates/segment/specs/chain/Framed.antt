@@ -12,7 +12,8 @@ use lib.Dec.{leb}
 use lib.ListN.{length, take, length-append}
 use lib.Seq.{length-take-le, take-take, take-at, take-length}
 use borrow.Author.Tests.{leb-true, le-leb, lt-leb}
-use Rattle.segment.specs.chain.Chain.{Format}
+use Rattle.segment.specs.chain.Chain.{framed}
+use Rattle.segment.specs.chain.Laws.{Format}
 
 -- what came through a test: the test, and what it guards
 pub cond-some : {A : Type 0} (b : Bool) (x : Option A) (a : A) → cond b x none ≡ some a → (b ≡ true) × (x ≡ some a)
@@ -20,12 +21,8 @@ cond-some true x a e = (refl, e)
 cond-some false x a e = absurd (Option·some-ne-none a (sym e))
 
 module _ {S L : Type 0} (head : ℕ) (sizeAt : List ℕ → ℕ) (read : S → List ℕ → Option L) where
-  -- the head is whole, the link is whole, and its bytes are those of a link
-  unfoldable pub framed : S → List ℕ → Option L
-  framed st s = cond (leb head (length s)) (cond (leb (sizeAt (take head s)) (length s)) (read st (take (sizeAt (take head s)) s)) none) none
-
   -- bytes of just the length that their head says
-  pub framed-whole : (st : S) (x : List ℕ) → head ≤ length x → sizeAt (take head x) ≡ length x → framed st x ≡ read st x
+  pub framed-whole : (st : S) (x : List ℕ) → head ≤ length x → sizeAt (take head x) ≡ length x → framed head sizeAt read st x ≡ read st x
   unfolding framed
   framed-whole st x h z = rw (le-leb head (length x) h, z, le-leb (length x) (length x) (le-refl (length x)), take-length x)
 
@@ -37,7 +34,7 @@ module _ {S L : Type 0} (head : ℕ) (sizeAt : List ℕ → ℕ) (read : S → L
       pub size-at : size l ≡ sizeAt (take head s)
       pub reads : read st (take (size l) s) ≡ some l
 
-    pub framed-is : {st : S} {s : List ℕ} {l : L} → framed st s ≡ some l → Framed st s l
+    pub framed-is : {st : S} {s : List ℕ} {l : L} → framed head sizeAt read st s ≡ some l → Framed st s l
     unfolding framed
     framed-is {st} {s} {l} e =
         let a = cond-some (leb head (length s)) _ l e in
@@ -48,11 +45,11 @@ module _ {S L : Type 0} (head : ℕ) (sizeAt : List ℕ → ℕ) (read : S → L
         let z : size l ≡ sizeAt (take head s) = size-is st _ l (length-take-le _ s n ∙ sym h) (b .1) ∙ h in
         record { fits = omega arith; size-at = z; reads = rw z (b .1) }
 
-    pub framed-size : (st : S) (s : List ℕ) (l : L) → framed st s ≡ some l → size l ≡ sizeAt (take head s)
+    pub framed-size : (st : S) (s : List ℕ) (l : L) → framed head sizeAt read st s ≡ some l → size l ≡ sizeAt (take head s)
     framed-size st s l e = let p : Framed st s l = framed-is e in p .size-at
 
     -- bytes whose first ones are those of a link
-    starts : {st : S} {s : List ℕ} {l : L} → Framed st s l → (t : List ℕ) → size l ≤ length t → take (size l) t ≡ take (size l) s → framed st t ≡ some l
+    starts : {st : S} {s : List ℕ} {l : L} → Framed st s l → (t : List ℕ) → size l ≤ length t → take (size l) t ≡ take (size l) s → framed head sizeAt read st t ≡ some l
     unfolding framed
     starts {st} {s} {l} p t h q =
         let hl : head ≤ size l = rw (p .size-at) (head-le (take head s)) in
@@ -61,21 +58,21 @@ module _ {S L : Type 0} (head : ℕ) (sizeAt : List ℕ → ℕ) (read : S → L
         rw (le-leb head (length t) (omega arith), z, le-leb (size l) (length t) h, q) (p .reads)
 
     -- fewer bytes than the link has
-    cut : {st : S} {s : List ℕ} {l : L} → Framed st s l → (k : ℕ) → k < size l → framed st (take k s) ≡ none
+    cut : {st : S} {s : List ℕ} {l : L} → Framed st s l → (k : ℕ) → k < size l → framed head sizeAt read st (take k s) ≡ none
     unfolding framed
     cut {st} {s} {l} p k h =
         let n : length (take k s) ≡ k = let f : size l ≤ length s = p .fits in length-take-le k s (omega arith) in
         go (decLe head k) n
       where
-        go : Dec (head ≤ k) → length (take k s) ≡ k → framed st (take k s) ≡ none
+        go : Dec (head ≤ k) → length (take k s) ≡ k → framed head sizeAt read st (take k s) ≡ none
         go (no q) n = rw (n, lt-leb head k (lt-of-not-le q))
         go (yes q) n = rw (n, le-leb head k q, take-take head k s q, ← (p .size-at), lt-leb (size l) k h)
 
-    none-at-end : (st : S) → framed st [] ≡ none
+    none-at-end : (st : S) → framed head sizeAt read st [] ≡ none
     unfolding framed
     none-at-end st = rw (lt-leb head 0 head-pos)
 
-    pub framed-format : Format (record { linkAt = framed; size = size; after = after })
+    pub framed-format : Format (record { linkAt = framed head sizeAt read; size = size; after = after })
     framed-format =
         record {
           empty = none-at-end;

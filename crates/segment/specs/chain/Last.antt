@@ -8,48 +8,35 @@ use mathlib.Core.Logic.{_⊎_, inl, inr, ⊎-elim}
 use mathlib.Core.List.{List, [], _∷_, _++_, append-assoc, append-nil}
 use Prim.Native.Nat.{ℕ, _<_}
 use lib.ListN.{length, take}
-use Rattle.segment.specs.chain.Chain as C
-use Rattle.segment.specs.chain.Chain.{All, Reader}
-
--- a link, and the links before it
-pub record Found (L : Type 0) : Type 0 where
-  pub before : List L
-  pub link : L
+use Rattle.segment.specs.chain.Chain.{Reader, walk, Found, scan, lastConfirmed, upTo, openOf}
+use Rattle.segment.specs.chain.Laws as C
+use Rattle.segment.specs.chain.Laws.{All}
 
 module _ {L : Type 0} (confirmed : List L → L → Bool) where
-  -- the last link of the second list that those before it confirm, where the first list stands before the second
-  unfoldable pub scan : List L → List L → Option (Found L) → Option (Found L)
-  scan p [] best = best
-  scan p (l ∷ ls) best = scan (p ++ l ∷ []) ls (cond (confirmed p l) (some (record { before = p; link = l })) best)
-
-  unfoldable pub lastConfirmed : List L → Option (Found L)
-  unfolding scan
-  lastConfirmed ls = scan [] ls none
-
-  scan-append : (p xs ys : List L) (best : Option (Found L)) → scan p (xs ++ ys) best ≡ scan (p ++ xs) ys (scan p xs best)
+  scan-append : (p xs ys : List L) (best : Option (Found L)) → scan confirmed p (xs ++ ys) best ≡ scan confirmed (p ++ xs) ys (scan confirmed p xs best)
   unfolding scan
   scan-append p [] ys best = rw append-nil
   scan-append p (x ∷ xs) ys best =
       scan-append (p ++ x ∷ []) xs ys (cond (confirmed p x) (some (record { before = p; link = x })) best) ∙ rw append-assoc
 
   -- links that nothing confirms are passed over
-  scan-never : (p xs : List L) (best : Option (Found L)) → All (λ l. (q : List L) → confirmed q l ≡ false) xs → scan p xs best ≡ best
+  scan-never : (p xs : List L) (best : Option (Found L)) → All (λ l. (q : List L) → confirmed q l ≡ false) xs → scan confirmed p xs best ≡ best
   unfolding scan All
   scan-never p [] best t = refl
   scan-never p (x ∷ xs) best t = rw (t .0 p) (scan-never (p ++ x ∷ []) xs best (t .1))
 
-  pub last-at-end : (ls : List L) (l : L) → confirmed ls l ≡ true → lastConfirmed (ls ++ l ∷ []) ≡ some (record { before = ls; link = l })
+  pub last-at-end : (ls : List L) (l : L) → confirmed ls l ≡ true → lastConfirmed confirmed (ls ++ l ∷ []) ≡ some (record { before = ls; link = l })
   unfolding lastConfirmed scan
   last-at-end ls l e = scan-append [] ls (l ∷ []) none ∙ rw e
 
   pub last-snoc : (ls : List L) (l : L)
-      → lastConfirmed (ls ++ l ∷ []) ≡ cond (confirmed ls l) (some (record { before = ls; link = l })) (lastConfirmed ls)
+      → lastConfirmed confirmed (ls ++ l ∷ []) ≡ cond (confirmed ls l) (some (record { before = ls; link = l })) (lastConfirmed confirmed ls)
   unfolding lastConfirmed scan
   last-snoc ls l = scan-append [] ls (l ∷ []) none
 
-  pub last-never : (ls xs : List L) → All (λ l. (q : List L) → confirmed q l ≡ false) xs → lastConfirmed (ls ++ xs) ≡ lastConfirmed ls
+  pub last-never : (ls xs : List L) → All (λ l. (q : List L) → confirmed q l ≡ false) xs → lastConfirmed confirmed (ls ++ xs) ≡ lastConfirmed confirmed ls
   unfolding lastConfirmed
-  last-never ls xs t = scan-append [] ls xs none ∙ scan-never ls xs (scan [] ls none) t
+  last-never ls xs t = scan-append [] ls xs none ∙ scan-never ls xs (scan confirmed [] ls none) t
 
   -- where the last confirmed link stands
   pub record Stands (ls : List L) (r : Found L) : Type 0 where
@@ -57,7 +44,7 @@ module _ {L : Type 0} (confirmed : List L → L → Bool) where
     pub split : ls ≡ r .before ++ r .link ∷ rest
     pub holds : confirmed (r .before) (r .link) ≡ true
 
-  stands : (p ls : List L) (best : Option (Found L)) (r : Found L) → scan p ls best ≡ some r → (best ≡ some r) ⊎ Stands (p ++ ls) r
+  stands : (p ls : List L) (best : Option (Found L)) (r : Found L) → scan confirmed p ls best ≡ some r → (best ≡ some r) ⊎ Stands (p ++ ls) r
   unfolding scan
   stands p [] best r e = inl e
   stands p (l ∷ ls) best r e = go (confirmed p l) refl (stands (p ++ l ∷ []) ls _ r e)
@@ -68,78 +55,68 @@ module _ {L : Type 0} (confirmed : List L → L → Bool) where
       go true h (inl q) = inr (subst (λ (x : Found L). Stands (p ++ l ∷ ls) x) (Option·some-injective _ _ (rw h at q)) (record { rest = ls; split = refl; holds = h }))
       go false h (inl q) = inl (rw h at q)
 
-  pub last-stands : (ls : List L) (r : Found L) → lastConfirmed ls ≡ some r → Stands ls r
+  pub last-stands : (ls : List L) (r : Found L) → lastConfirmed confirmed ls ≡ some r → Stands ls r
   unfolding lastConfirmed
   last-stands ls r e = ⊎-elim (λ n. absurd (Option·some-ne-none r (sym n))) (λ s. s) (stands [] ls none r e)
 
-  -- the links up to the last confirmed one, it included
-  unfoldable pub upTo : Option (Found L) → List L
-  upTo none = []
-  upTo (some r) = r .before ++ r .link ∷ []
-
-  pub last-upTo : (ls : List L) → lastConfirmed (upTo (lastConfirmed ls)) ≡ lastConfirmed ls
+  pub last-upTo : (ls : List L) → lastConfirmed confirmed (upTo confirmed (lastConfirmed confirmed ls)) ≡ lastConfirmed confirmed ls
   unfolding upTo lastConfirmed scan
-  last-upTo ls = go (lastConfirmed ls) refl
+  last-upTo ls = go (lastConfirmed confirmed ls) refl
     where
-      go : (o : Option (Found L)) → lastConfirmed ls ≡ o → lastConfirmed (upTo o) ≡ o
+      go : (o : Option (Found L)) → lastConfirmed confirmed ls ≡ o → lastConfirmed confirmed (upTo confirmed o) ≡ o
       go none e = refl
       go (some r) e = last-at-end (r .before) (r .link) (last-stands ls r e .holds)
 
-  pub upTo-prefix : (ls : List L) → (zs : List L) × (ls ≡ upTo (lastConfirmed ls) ++ zs)
+  pub upTo-prefix : (ls : List L) → (zs : List L) × (ls ≡ upTo confirmed (lastConfirmed confirmed ls) ++ zs)
   unfolding upTo
-  upTo-prefix ls = go (lastConfirmed ls) refl
+  upTo-prefix ls = go (lastConfirmed confirmed ls) refl
     where
-      go : (o : Option (Found L)) → lastConfirmed ls ≡ o → (zs : List L) × (ls ≡ upTo o ++ zs)
+      go : (o : Option (Found L)) → lastConfirmed confirmed ls ≡ o → (zs : List L) × (ls ≡ upTo confirmed o ++ zs)
       go none e = (ls, refl)
       go (some r) e = let s : Stands ls r = last-stands ls r e in (s .rest, s .split ∙ sym (append-assoc (r .before) (r .link ∷ []) (s .rest)))
 
 -- ---- the store over a format: opening, and what an append's new bytes do to it
 module _ {S L : Type 0} (R : Reader S L) (confirmed : List L → L → Bool) (st : S) where
-  -- what opening finds
-  unfoldable pub openOf : List ℕ → Option (Found L)
-  unfolding C.walk lastConfirmed
-  openOf f = lastConfirmed confirmed (C.walk R st f)
-
   -- the bytes up to the end of the last confirmed link
   unfoldable pub keptOf : List ℕ → List ℕ
   unfolding openOf upTo C.sizes
-  keptOf f = take (C.sizes R (upTo confirmed (openOf f))) f
+  keptOf f = take (C.sizes R (upTo confirmed (openOf R confirmed st f))) f
 
   module _ (F : C.Format R) where
-    pub kept-exact : (f : List ℕ) → C.Exact R st (upTo confirmed (openOf f)) (keptOf f)
+    pub kept-exact : (f : List ℕ) → C.Exact R st (upTo confirmed (openOf R confirmed st f)) (keptOf f)
     unfolding openOf keptOf
     kept-exact f =
-        let p = upTo-prefix confirmed (C.walk R st f) in
-        C.exact-take R F st (upTo confirmed (openOf f)) (p .0) f (p .1)
+        let p = upTo-prefix confirmed (walk R st f) in
+        C.exact-take R F st (upTo confirmed (openOf R confirmed st f)) (p .0) f (p .1)
 
-    pub kept-length : (f : List ℕ) → length (keptOf f) ≡ C.sizes R (upTo confirmed (openOf f))
+    pub kept-length : (f : List ℕ) → length (keptOf f) ≡ C.sizes R (upTo confirmed (openOf R confirmed st f))
     kept-length f = C.exact-length R F (kept-exact f)
 
     -- the bytes up to the last confirmed link's end, with new links behind them
-    pub walk-append : (f new : List ℕ) (ms : List L) → C.Exact R (C.afters R st (upTo confirmed (openOf f))) ms new
-        → C.walk R st (keptOf f ++ new) ≡ upTo confirmed (openOf f) ++ ms
+    pub walk-append : (f new : List ℕ) (ms : List L) → C.Exact R (C.afters R st (upTo confirmed (openOf R confirmed st f))) ms new
+        → walk R st (keptOf f ++ new) ≡ upTo confirmed (openOf R confirmed st f) ++ ms
     walk-append f new ms x =
-        C.walk-exact R F new (kept-exact f) ∙ ap (λ (r : List L). upTo confirmed (openOf f) ++ r) (C.walk-all R F x)
+        C.walk-exact R F new (kept-exact f) ∙ ap (λ (r : List L). upTo confirmed (openOf R confirmed st f) ++ r) (C.walk-all R F x)
 
     -- new bytes that are links, the last of which is confirmed: that one is found
     pub open-append : (f new : List ℕ) (ls : List L) (m : L)
-        → C.Exact R (C.afters R st (upTo confirmed (openOf f))) (ls ++ m ∷ []) new
-        → confirmed (upTo confirmed (openOf f) ++ ls) m ≡ true
-        → openOf (keptOf f ++ new) ≡ some (record { before = upTo confirmed (openOf f) ++ ls; link = m })
+        → C.Exact R (C.afters R st (upTo confirmed (openOf R confirmed st f))) (ls ++ m ∷ []) new
+        → confirmed (upTo confirmed (openOf R confirmed st f) ++ ls) m ≡ true
+        → openOf R confirmed st (keptOf f ++ new) ≡ some (record { before = upTo confirmed (openOf R confirmed st f) ++ ls; link = m })
     unfolding openOf
     open-append f new ls m x c =
-        ap (lastConfirmed confirmed) (walk-append f new (ls ++ m ∷ []) x ∙ sym (append-assoc (upTo confirmed (openOf f)) ls (m ∷ [])))
-        ∙ last-at-end confirmed (upTo confirmed (openOf f) ++ ls) m c
+        ap (lastConfirmed confirmed) (walk-append f new (ls ++ m ∷ []) x ∙ sym (append-assoc (upTo confirmed (openOf R confirmed st f)) ls (m ∷ [])))
+        ∙ last-at-end confirmed (upTo confirmed (openOf R confirmed st f) ++ ls) m c
 
     -- the same, cut short: what was found before is found
     pub open-cut : (f new : List ℕ) (ls : List L) (m : L)
-        → C.Exact R (C.afters R st (upTo confirmed (openOf f))) (ls ++ m ∷ []) new
+        → C.Exact R (C.afters R st (upTo confirmed (openOf R confirmed st f))) (ls ++ m ∷ []) new
         → All (λ l. (q : List L) → confirmed q l ≡ false) ls
-        → (k : ℕ) → k < length new → openOf (keptOf f ++ take k new) ≡ openOf f
+        → (k : ℕ) → k < length new → openOf R confirmed st (keptOf f ++ take k new) ≡ openOf R confirmed st f
     unfolding openOf
     open-cut f new ls m x t k h =
-        let o = upTo confirmed (openOf f) in
+        let o = upTo confirmed (openOf R confirmed st f) in
         ap (lastConfirmed confirmed) (C.walk-exact R F (take k new) (kept-exact f))
-        ∙ last-never confirmed o (C.walk R (C.afters R st o) (take k new))
+        ∙ last-never confirmed o (walk R (C.afters R st o) (take k new))
         (C.walk-cut R F (λ l. (q : List L) → confirmed q l ≡ false) (C.afters R st o) ls m new x t k h)
-        ∙ last-upTo confirmed (C.walk R st f)
+        ∙ last-upTo confirmed (walk R st f)

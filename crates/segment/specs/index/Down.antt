@@ -13,8 +13,8 @@ use native.Mathlib.Nat.{lt-of-not-le}
 use native.Mathlib.Decide.{decLe}
 use lib.ListN.{length, take, drop, getD}
 use Rattle.answers.specs.limits.Limits.{maxEntries}
-use Rattle.segment.specs.chain.Chain.{sizes}
-use Rattle.segment.specs.chain.Last.{openOf}
+use Rattle.segment.specs.chain.Laws.{sizes}
+use Rattle.segment.specs.chain.Chain.{openOf}
 use Rattle.segment.specs.Header.{Link, start, reader}
 use Rattle.segment.specs.Chained.{chain}
 use Rattle.segment.specs.Search.{Placed, SearchAt, search-first, search-down, search-found, search-none}

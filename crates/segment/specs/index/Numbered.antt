@@ -11,7 +11,7 @@ use native.Mathlib.Numerals.{add-one}
 use lib.ListN.{length, take, drop, getD, length-take, length-drop, length-append}
 use lib.Seq.{drop-drop, getD-drop, getD-at, take-at, split-at, take-suc, length-take-le}
 use Rattle.octets.specs.le.Le.{leAt, leOf}
-use Rattle.segment.specs.chain.Chain.{afters, afters-append, sizes}
+use Rattle.segment.specs.chain.Laws.{afters, afters-append, sizes}
 use Rattle.segment.specs.chain.Walk.{walk-at}
 use Rattle.segment.specs.declared.Step.the-variants.{Sound}
 use Rattle.segment.specs.Header.{Link, State, start, reader, linkAt, size, after, whole, noLink}

@@ -10,7 +10,7 @@ use native.Mathlib.Numerals.{add-one}
 use lib.ListN.{length, take, drop, getD, set, length-take}
 use lib.Seq.{getD-take, split-at, take-all, take-suc-set, length-take-le}
 use Rattle.answers.specs.limits.Limits.{maxEntries}
-use Rattle.segment.specs.chain.Chain.{sizes}
+use Rattle.segment.specs.chain.Laws.{sizes}
 use Rattle.segment.specs.declared.Step.the-variants.{Sound, Stop}
 use Rattle.segment.specs.Header.{Link, reader, noLink}
 use Rattle.segment.specs.Laws.{size-least}

@@ -8,12 +8,15 @@ use native.Mathlib.Omega.{arith}
 use lib.ListN.{length, take, drop, set, replicate, length-append, length-drop, length-replicate}
 use lib.Seq.{drop-drop, length-take-le}
 use borrow.Rule.Slice.PartMut.{putMid}
-use Rattle.octets.specs.Over.{over, length-over, over-then, over-next, over-swap}
+use Rattle.octets.specs.Over.{over}
+use Rattle.octets.specs.OverLaws.{length-over, over-then, over-next, over-swap}
 use Rattle.octets.specs.Parts.{back}
-use Rattle.octets.specs.Round.{round64, round64-ge}
+use Rattle.octets.specs.Round.{round64}
+use Rattle.octets.specs.RoundLaws.{round64-ge}
 use Rattle.octets.specs.le.Le.{leBytes}
 use Rattle.segment.specs.Header.{magic, contentHash}
-use Rattle.segment.specs.Written.{headerOf, header, padding, segment, headerOf-length, hash-length, header-length, segment-length}
+use Rattle.segment.specs.Written.{headerOf, header, padding, segment}
+use Rattle.segment.specs.WrittenLaws.{headerOf-length, hash-length, header-length, segment-length}
 
 -- ---- the header
 

@@ -9,7 +9,8 @@ use native.Mathlib.Omega.{arith}
 use lib.ListN.{length, take, drop, length-append, length-drop}
 use lib.Seq.{length-take-le}
 use borrow.Rule.Slice.PartMut.{putMid}
-use Rattle.octets.specs.Over.{over, over-none, over-then, length-over}
+use Rattle.octets.specs.Over.{over}
+use Rattle.octets.specs.OverLaws.{over-none, over-then, length-over}
 use Rattle.octets.specs.Parts.{back}
 use Rattle.vecseg.specs.Payload.{width}
 use Rattle.vecseg.specs.Find.{Place, valueAt, valuesFrom, vectorOf}

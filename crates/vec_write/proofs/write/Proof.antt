@@ -4,8 +4,8 @@ use Prim.Native.Nat.{_+_}
 use mathlib.Core.Path.{_≡_, sym, _∙_}
 use native.Mathlib.Omega.{arith}
 use lib.ListN.{length}
-use Rattle.answers.specs.Write.{write-bad, write-short, write-done}
-use Rattle.octets.specs.Round.{round64-lt}
+use Rattle.answers.specs.WriteLaws.{write-bad, write-short, write-done}
+use Rattle.octets.specs.RoundLaws.{round64-lt}
 use Rattle.vecseg.specs.Writer.{vecBytes}
 use Rattle.vecseg.specs.WriterLaws.{Accepted, accepted, held-small}
 use Rattle.vecseg.specs.Laid.{payload-size, payload-laid}

@@ -3,7 +3,8 @@
 use Prim.Native.Nat.{_-_}
 use mathlib.Core.Path.{sym, ap, _∙_}
 use native.Mathlib.Omega.{arith}
-use Rattle.octets.specs.Round.{round64, round64-lt}
+use Rattle.octets.specs.Round.{round64}
+use Rattle.octets.specs.RoundLaws.{round64-lt}
 use Rattle.batch.specs.Form.{bodiesOf}
 use Rattle.batch.specs.Lines.{noBody, bodies-count, count-is, held-bounds, body-at}
 use Rattle.append.specs.bodies.Bodies.{EndAt, end-first, end-next, end-last}

@@ -8,7 +8,8 @@ use lib.Dec.{ltb}
 use lib.ListN.{length, take}
 use lib.Seq.{length-take-le}
 use borrow.Author.Tests.{ltb-false}
-use Rattle.octets.specs.Round.{round64, round64-lt}
+use Rattle.octets.specs.Round.{round64}
+use Rattle.octets.specs.RoundLaws.{round64-lt}
 use Rattle.manifest.specs.Payload.{payloadLength}
 use Rattle.manifest.specs.Opening.{opened}
 use Rattle.batch.specs.Form.{bodiesOf}

@@ -5,7 +5,7 @@ use mathlib.Core.Path.{_≡_, refl, sym}
 use native.Mathlib.Nat.{add-zero}
 use native.Mathlib.Omega.{arith}
 use lib.ListN.{length}
-use Rattle.octets.specs.Over.{over-none}
+use Rattle.octets.specs.OverLaws.{over-none}
 use Rattle.octets.specs.le.Laws.{length-leBytes}
 use Rattle.idmap.specs.Encode.{restartOf}
 use borrow.Author.Needs.{needs}

@@ -1,7 +1,7 @@
 -- `text::put_number` meets its contract: three pieces, one right behind the other.
 -- Assumes nothing.
 use native.Mathlib.Omega.{arith}
-use Rattle.octets.specs.text.Text.{decimal-u64}
+use Rattle.octets.specs.text.TextLaws.{decimal-u64}
 use Rattle.octets.specs.text.Written.{then}
 use borrow.Author.Needs.{needs}
 use Rattle.octets.proofs.text.put_number.Statement.{statement}

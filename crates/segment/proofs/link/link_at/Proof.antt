@@ -3,7 +3,7 @@
 use mathlib.Core.Path.{sym, _∙_}
 use native.Mathlib.Omega.{arith}
 use borrow.Author.Tests.{not-true, not-false}
-use Rattle.octets.specs.Round.{round64-ge}
+use Rattle.octets.specs.RoundLaws.{round64-ge}
 use Rattle.segment.specs.Step.{step-short, step-cut, step-unsound, step-padding, step-sound}
 use borrow.Author.Needs.{needs}
 use Rattle.segment.proofs.link.link_at.Statement.{statement}

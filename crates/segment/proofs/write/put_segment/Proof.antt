@@ -2,7 +2,7 @@
 -- Assumes nothing.
 use native.Mathlib.Omega.{arith}
 use lib.ListN.{length, length-take, length-drop}
-use Rattle.octets.specs.Round.{round64-ge}
+use Rattle.octets.specs.RoundLaws.{round64-ge}
 use Rattle.segment.specs.write.Laid.{payload-laid, padding-laid, segment-size}
 use borrow.Author.Needs.{needs}
 use Rattle.segment.proofs.write.put_segment.Statement.{statement}

@@ -3,7 +3,8 @@
 use mathlib.Core.Path.{_≡_, refl, sym, _∙_}
 use native.Mathlib.Omega.{arith}
 use lib.ListN.{length, take}
-use Rattle.octets.specs.Over.{over, over-none}
+use Rattle.octets.specs.Over.{over}
+use Rattle.octets.specs.OverLaws.{over-none}
 use Rattle.varint.specs.Varint.{varintOf}
 use Rattle.varint.specs.Write.{Stands, stands-first, stands-byte, stands-more, stands-last, last-length, laid, all-laid}
 use borrow.Author.Needs.{needs}

@@ -2,7 +2,7 @@
 -- Assumes nothing.
 use mathlib.Core.Path.{refl}
 use native.Mathlib.Omega.{arith}
-use Rattle.answers.specs.Write.{write-short, write-done}
+use Rattle.answers.specs.WriteLaws.{write-short, write-done}
 use borrow.Author.Needs.{needs}
 use Rattle.varint.proofs.write.write.Statement.{statement}
 use Rattle.varint.proofs.write.write.Tie as tie

@@ -3,7 +3,7 @@
 use Prim.Native.Nat.{_≤_, _-_}
 use mathlib.Core.Path.{_≡_, refl, sym, _∙_}
 use native.Mathlib.Omega.{arith}
-use Rattle.octets.specs.Round.{round64-ge}
+use Rattle.octets.specs.RoundLaws.{round64-ge}
 use Rattle.vecseg.specs.BlockLaws.{filled-short, filled-there}
 use borrow.Author.Needs.{needs}
 use Rattle.vec_read.proofs.block.is_filled.Statement.{statement}

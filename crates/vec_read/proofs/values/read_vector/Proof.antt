@@ -5,7 +5,7 @@ use mathlib.Core.Path.{_≡_, refl, sym, ap, _∙_}
 use native.Mathlib.Omega.{arith}
 use lib.ListN.{length, drop, length-drop}
 use lib.Seq.{length-take-le}
-use Rattle.answers.specs.Write.{write-short, write-done}
+use Rattle.answers.specs.WriteLaws.{write-short, write-done}
 use Rattle.vecseg.specs.Payload.{width}
 use Rattle.vec_read.specs.values.Vector.{Bounds, ValueRoom, value-room, all-room, VectorAt, vector-length, vector-first, vector-next, vector-last}
 use borrow.Author.Needs.{needs}

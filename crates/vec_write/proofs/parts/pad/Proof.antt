@@ -1,7 +1,8 @@
 -- `vec_put::pad` meets its contract: the part that was lent comes back as zeros.
 -- Assumes nothing.
 use native.Mathlib.Omega.{arith}
-use Rattle.octets.specs.Round.{round64, round64-ge}
+use Rattle.octets.specs.Round.{round64}
+use Rattle.octets.specs.RoundLaws.{round64-ge}
 use Rattle.vecseg.specs.Laid.{pad-laid}
 use borrow.Author.Needs.{needs}
 use Rattle.vec_write.proofs.parts.pad.Statement.{statement}

@@ -4,7 +4,7 @@ use Prim.Native.Nat.{_+_}
 use mathlib.Core.Path.{sym}
 use native.Mathlib.Omega.{arith}
 use lib.Seq.{length-take-le}
-use Rattle.octets.specs.Round.{round64-ge}
+use Rattle.octets.specs.RoundLaws.{round64-ge}
 use Rattle.vecseg.specs.Laid.{map-laid, block-laid}
 use borrow.Author.Needs.{needs}
 use Rattle.vec_write.proofs.parts.put_block.Statement.{statement}
