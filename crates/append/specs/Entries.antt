@@ -7,10 +7,10 @@ use native.Mathlib.Omega.{arith}
 use native.Mathlib.Numerals.{add-one}
 use lib.ListN.{length, take, drop, getD, set, length-map, length-set}
 use lib.Seq.{take-suc, take-length, length-take-le, getD-drop, drop-drop}
+use Rattle.segment.specs.chain.Chain.{All}
 use Rattle.octets.specs.Over.{over}
 use Rattle.octets.specs.OverLaws.{over-none, over-front}
 use Rattle.octets.specs.le.Le.{leAt, leOf}
-use Rattle.segment.specs.chain.Laws.{All}
 use Rattle.segment.specs.Header.{Link}
 use Rattle.segment.specs.Laws.{linkFront, Lies, lies}
 use Rattle.segment.specs.Chained.{offsetsOf}

@@ -6,9 +6,9 @@ use mathlib.Core.List.{List, _∷_, _++_, map}
 use native.Mathlib.Omega.{arith}
 use lib.ListN.{length, take, drop, replicate, length-map}
 use lib.Seq.{drop-at}
+use Rattle.segment.specs.chain.Chain.{All}
 use Rattle.octets.specs.Over.{over}
 use Rattle.octets.specs.ZeroLaws.{zeros-left}
-use Rattle.segment.specs.chain.Laws.{All}
 use Rattle.segment.specs.Header.{Link}
 use Rattle.segment.specs.Chained.{offsetsOf, Rising, chain-rising}
 use Rattle.manifest.specs.SizedLaws.{length-statesBy}

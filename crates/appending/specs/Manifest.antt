@@ -7,7 +7,8 @@ use native.Mathlib.Omega.{arith}
 use lib.ListN.{length, drop, getD, replicate, length-append, length-replicate, length-drop}
 use lib.Seq.{getD-append-add, length-take-le}
 use Rattle.octets.specs.le.Le.{leBytes}
-use Rattle.segment.specs.chain.Laws.{All, all-map}
+use Rattle.segment.specs.chain.Chain.{All}
+use Rattle.segment.specs.chain.Laws.{all-map}
 use Rattle.segment.specs.Header.{Link}
 use Rattle.segment.specs.Laws.{linkFront, Lies, lies, size-least}
 use Rattle.segment.specs.Chained.{chain}

@@ -14,9 +14,8 @@ use Rattle.octets.specs.RoundLaws.{round64-ge}
 use Rattle.octets.specs.Zero.{sameBytes}
 use Rattle.octets.specs.ZeroLaws.{equal-same, and-split}
 use Rattle.answers.specs.limits.Limits.{maxFile, maxEntries}
-use Rattle.segment.specs.chain.Laws.{All, all-append, Exact, afters, afters-append, exact-append, sizes}
-use Rattle.segment.specs.chain.Last as last
-use Rattle.segment.specs.chain.Chain.{Found, upTo, openOf}
+use Rattle.segment.specs.chain.Laws.{all-append, Exact, afters, afters-append, exact-append, sizes}
+use Rattle.segment.specs.chain.Chain.{All, Found, upTo, openOf}
 use Rattle.segment.specs.chain.Last.{Stands, last-stands}
 use Rattle.segment.specs.chain.Walk.{sizes-append}
 use Rattle.segment.specs.Header.{Link, start, reader, size, whole, typeHeld, flagsHeld}

@@ -9,8 +9,8 @@ use native.Mathlib.Omega.{arith}
 use lib.Dec.{eqb, leb}
 use lib.ListN.{length, drop, getD, replicate}
 use borrow.Author.Tests.{eq-eqb, ne-eqb, eqb-true}
+use Rattle.segment.specs.chain.Chain.{All}
 use Rattle.octets.specs.ZeroLaws.{and-split}
-use Rattle.segment.specs.chain.Laws.{All}
 use Rattle.segment.specs.Header.{Link}
 use Rattle.segment.specs.Chained.{Rising}
 use Rattle.manifest.specs.Payload.{manifestKind, stateHeld, statesHeld}

@@ -15,7 +15,8 @@ use Rattle.octets.specs.RoundLaws.{round64-ge}
 use Rattle.octets.specs.Zero.{allZero}
 use Rattle.octets.specs.ZeroLaws.{and-split}
 use Rattle.answers.specs.limits.Limits.{maxBodies, maxBatch}
-use Rattle.segment.specs.chain.Laws.{All, Exact, done, afters, exact-append}
+use Rattle.segment.specs.chain.Chain.{All}
+use Rattle.segment.specs.chain.Laws.{Exact, done, afters, exact-append}
 use Rattle.segment.specs.Header.{Link, reader, size, typeHeld, flagsHeld}
 use Rattle.segment.specs.Laws.{segment-format}
 use Rattle.segment.specs.Written.{segment, linkOf}

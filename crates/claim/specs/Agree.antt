@@ -10,7 +10,6 @@ use lib.ListN.{length, take, drop, getD, replicate}
 use Rattle.answers.specs.limits.Limits.{maxFile}
 use Rattle.answers.specs.Answer.{Answer, Accepted, Refusal}
 use Rattle.segment.specs.chain.Chain.{walk, walkF, Found, upTo, lastConfirmed, openOf, scan}
-use Rattle.segment.specs.chain.Last as last
 use Rattle.segment.specs.Header.{Link, size}
 use Rattle.segment.specs.Written.{linkOf}
 use Rattle.segment.specs.WrittenLaws.{linkOf-size}
@@ -19,13 +18,12 @@ use Rattle.manifest.specs.Payload.{manifestKind, manifestPayload, entrySize}
 use Rattle.manifest.specs.Opening.{opened, states}
 use Rattle.batch.specs.Form.{Body, bodiesOf, member}
 use Rattle.appending.specs.Retire.{retired}
-use Rattle.appending.specs.Append.{keptLinks, startOf, nextId, oldStates, keptStates, bodySize, bodyLinks, bodiesEnd, manifestAt, manifestId, newEnd, newLinks, newStates, newPayload, Appends}
+use Rattle.appending.specs.Append.{keptLinks, startOf, nextId, oldStates, keptStates, bodySize, bodyLinks, bodiesEnd, manifestAt, manifestId, newEnd, newLinks, newStates, newPayload, Appends, Holds}
 use Rattle.appending.specs.Accepts.{Fits}
 use Rattle.appending.specs.Opens.{newManifest, fileWith}
 use Rattle.appending.specs.Buffer.{open-with, states-with, with-length, Appended, appended, file-is}
-use Rattle.appending.specs.Append.{Holds}
 use Rattle.claim.specs.Model.{Entry, linksOf, statesOf, liveEntry, Model, emptyModel, paired, modelOf, retiredIf, retire, ifAny, joinManifest, joinBody, joinBodies, newManifestEntry, acceptedModel, feed, feedAll}
-use Rattle.claim.specs.Runs.{Call, isAccepted, fedOf, fedAll, fileAfter, Run, stop, call}
+use Rattle.claim.specs.Demand3.{Call, isAccepted, fedOf, fedAll, fileAfter, Run, stop, call}
 
 -- what opening finds in a file of this model
 unfoldable pub foundBy : List Entry → Option Entry → Option (Found Link)

@@ -1,8 +1,8 @@
--- The claim about every list of appends.
+-- The model of a file, the claim about every list of appends, and the theorem.
 pub mod Model
-pub mod Runs
+pub mod Demand3
 pub mod Agree
 pub mod Reports
-pub mod Claim
-pub mod Cut
-pub mod Demand3
+pub mod ClaimHolds
+pub mod CutHolds
+pub mod Theorem

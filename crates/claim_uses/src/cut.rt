@@ -5,7 +5,7 @@ ghost use Prim.Native.Nat.{_≤_};
 ghost use lib.ListN.{length};
 ghost use Rattle.manifest.specs.Opening.{opened};
 ghost use Rattle.appending.specs.Append.{startOf, appendBuffer};
-ghost use Rattle.claim_uses.specs.cut.CutRead.{Says};
+ghost use Rattle.claim_uses.specs.cut.CutRead.{CutReadPromise};
 use appending::Appended;
 use manifest::Opened;
 use vecseg::Vector;
@@ -46,7 +46,7 @@ pub fn append_and_cut(
     id: u64,
     out: &mut [u8],
 ) -> CutRead
-    ensures { λ r. ⌜ Says (now (buf .entry)) n (now (batch .entry)) (now (ids .entry)) k id (now (out .entry)) (now (out .exit)) r ⌝ }
+    ensures { λ r. ⌜ CutReadPromise (now (buf .entry)) n (now (batch .entry)) (now (ids .entry)) k id (now (out .entry)) (now (out .exit)) r ⌝ }
     ensures { λ _. ⌜ now (buf .exit) ≡ appendBuffer (now (buf .entry)) n (now (batch .entry)) (now (ids .entry)) timestamp ⌝ }
 {
     if n > buf.len() as u64 {

@@ -1,7 +1,7 @@
 // Two batches appended to an empty file, the second with some ids retired, and the file opened. What opening answers is promised by the
 // model alone: that the two agree is the claim about every list of appends.
 ghost use mathlib.Core.Path.{_≡_};
-ghost use Rattle.claim_uses.specs.twice.Twice.{Says, twiceBuffer};
+ghost use Rattle.claim_uses.specs.twice.Twice.{TwicePromise, twiceBuffer};
 use appending::Appended;
 use manifest::Opened;
 
@@ -27,7 +27,7 @@ pub fn append_twice(
     retire: &[u64],
     timestamp: u64,
 ) -> Twice
-    ensures { λ r. ⌜ Says (now (buf .entry)) (now (first .entry)) (now (second .entry)) (now (retire .entry)) timestamp r ⌝ }
+    ensures { λ r. ⌜ TwicePromise (now (buf .entry)) (now (first .entry)) (now (second .entry)) (now (retire .entry)) timestamp r ⌝ }
     ensures { λ _. ⌜ now (buf .exit) ≡ twiceBuffer (now (buf .entry)) (now (first .entry)) (now (second .entry)) (now (retire .entry)) timestamp ⌝ }
 {
     let a = append::append(buf, 0, first, &retire[..0], timestamp);

@@ -1,3 +1,2 @@
 -- The lister: what it prints about a file; and the laws by which its lines are written.
-pub mod Listing
 pub mod Lines

@@ -6,7 +6,7 @@ ghost use Rattle.octets.specs.text.Written.{Written};
 ghost use Rattle.segment.specs.index.Offsets.{most};
 ghost use Rattle.manifest.specs.Opening.{opened};
 ghost use Rattle.opening.specs.Indexed.{ManifestAt, Indexed};
-ghost use Rattle.listing.specs.line.Listing.{stateWord};
+ghost use Rattle.reading.specs.Listing.{stateWord};
 ghost use Rattle.listing.specs.line.Lines.{lineAt};
 ghost use Rattle.listing.specs.entries.Entries.{entryLines};
 

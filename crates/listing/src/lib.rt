@@ -4,7 +4,7 @@ pub mod line;
 pub mod text;
 ghost use mathlib.Core.Path.{_≡_};
 ghost use Rattle.answers.specs.Write.{writeAnswer, writeBuffer};
-ghost use Rattle.listing.specs.line.Listing.{listText};
+ghost use Rattle.reading.specs.Listing.{listText};
 use answers::Wrote;
 
 // The text about a file at the front of a buffer, and its length; 9 where there is no room. It is put together in an array of our own, since a refusal

@@ -4,7 +4,7 @@ ghost use Prim.Native.Nat.{_+_, _≤_};
 ghost use lib.ListN.{length};
 ghost use Rattle.octets.specs.le.Le.{leAt};
 ghost use Rattle.octets.specs.text.Written.{Written};
-ghost use Rattle.listing.specs.line.Listing.{column, checkWord};
+ghost use Rattle.reading.specs.Listing.{column, checkWord};
 ghost use Rattle.listing.specs.line.Lines.{lineAt};
 
 // Two columns.

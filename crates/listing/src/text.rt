@@ -3,9 +3,9 @@ ghost use Prim.Native.Nat.{_≤_};
 ghost use lib.ListN.{length};
 ghost use Rattle.octets.specs.text.Written.{Written};
 ghost use Rattle.segment.specs.index.Offsets.{most};
-ghost use Rattle.manifest.specs.Opening.{opened};
+ghost use Rattle.manifest.specs.Opening.{opened, tried};
 ghost use Rattle.opening.specs.Indexed.{Indexed};
-ghost use Rattle.listing.specs.line.Listing.{listFound, listText};
+ghost use Rattle.reading.specs.Listing.{listFound, listText};
 ghost use Rattle.listing.specs.text.Whole.{OpensAt};
 use manifest::Opened;
 
@@ -17,18 +17,18 @@ fn put_list(
     manifest: usize,
     end: usize,
     count: usize,
-    tried: usize,
+    boundaries: usize,
 ) -> usize
     requires { ⌜ (most ≤ length (now offsets)) × (102400 ≤ length (now text)) ⌝ }
     requires { ⌜ Indexed (now file) (now offsets) ⌝ }
-    requires { ⌜ OpensAt (now file) manifest end count tried ⌝ }
-    ensures { λ r. ⌜ Written (now (text .entry)) (now (text .exit)) 0 (listFound (now (file .entry)) (opened (now (file .entry)))) r ⌝ }
+    requires { ⌜ OpensAt (now file) manifest end count boundaries ⌝ }
+    ensures { λ r. ⌜ Written (now (text .entry)) (now (text .exit)) 0 (listFound (tried (now (file .entry)) (opened (now (file .entry)))) (opened (now (file .entry)))) r ⌝ }
 {
     let headed = octets::text::put_bytes(text, 0, b"id type offset length state check\n");
     let listed = crate::entries::put_entries(text, headed, file, offsets, manifest, count);
     let last = crate::line::put_segment(text, listed, file, manifest, b"manifest");
     let ended = octets::text::put_number(text, last, b"end ", end as u64, b" tried ");
-    octets::text::put_number(text, ended, b"", tried as u64, b"\n")
+    octets::text::put_number(text, ended, b"", boundaries as u64, b"\n")
 }
 
 // What the lister prints about a file.

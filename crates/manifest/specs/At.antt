@@ -7,9 +7,9 @@ use mathlib.Core.List.{List, [], _∷_, _++_}
 use native.Mathlib.Omega.{arith}
 use lib.ListN.{length, take, drop, getD, replicate, length-append, length-drop, length-replicate}
 use lib.Seq.{length-take-le}
+use Rattle.segment.specs.chain.Chain.{All}
 use Rattle.octets.specs.le.Le.{leBytes}
 use Rattle.octets.specs.le.Laws.{length-leBytes}
-use Rattle.segment.specs.chain.Laws.{All}
 use Rattle.manifest.specs.Sized.{entriesOf}
 use Rattle.manifest.specs.SizedLaws.{length-entriesOf, recordBy-ge}
 use Rattle.manifest.specs.Payload.{entrySize, recordEnd, payloadLength, rootBytes, root}

@@ -9,8 +9,8 @@ use lib.ListN.{length, take, drop, getD, length-drop, length-map}
 use lib.Seq.{drop-drop, take-add, length-take-le, getD-drop}
 use Rattle.octets.specs.le.Le.{leAt, leBytes, Bytes}
 use Rattle.octets.specs.le.Laws.{bytes-drop, bytes-take, leBytes-leOf}
-use Rattle.segment.specs.chain.Chain.{walk}
-use Rattle.segment.specs.chain.Laws.{All, all-map}
+use Rattle.segment.specs.chain.Chain.{All, walk}
+use Rattle.segment.specs.chain.Laws.{all-map}
 use Rattle.segment.specs.chain.Walk.{walk-cons}
 use Rattle.segment.specs.Header.{Link, State, reader, linkAt, size, after}
 use Rattle.segment.specs.Laws.{segment-format, linkFront, Lies, lies, size-least}

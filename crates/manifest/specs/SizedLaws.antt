@@ -1,5 +1,6 @@
 -- Laws of a directory for entries of any size and form.
 -- Assumes nothing.
+use Rattle.segment.specs.chain.Chain.{All}
 use Rattle.manifest.specs.Sized.{entriesOf, statesBy, recordBy}
 use Prim.Native.Nat.{ℕ, zero, suc, _*_, _<_, _+_, _≤_}
 use mathlib.Core.Path.{_≡_, sym, ap, _∙_, refl}
@@ -8,7 +9,6 @@ use native.Mathlib.Omega.{arith}
 use native.Mathlib.Nat.{mul-zero, mul-suc}
 use lib.ListN.{length, take, drop, getD, length-append, List·getD-append}
 use lib.Seq.{getD-drop, drop-at}
-use Rattle.segment.specs.chain.Laws.{All}
 use Rattle.octets.specs.RoundLaws.{round64-ge}
 
 -- ---- entries

@@ -10,8 +10,8 @@ use native.Mathlib.Omega.{arith}
 use lib.Dec.{eqb}
 use lib.ListN.{drop}
 use borrow.Author.Tests.{eq-eqb, ne-eqb, eqb-true}
+use Rattle.segment.specs.chain.Chain.{All}
 use Rattle.octets.specs.ZeroLaws.{same-equal}
-use Rattle.segment.specs.chain.Laws.{All}
 use Rattle.segment.specs.Header.{Link, whole, contentHash}
 use Rattle.vecseg.specs.Payload.{checkOf, blockCount}
 use Rattle.vecseg.specs.Find.{Place, findIn, lineAt}

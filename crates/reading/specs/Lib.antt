@@ -3,7 +3,10 @@ pub mod Live
 pub mod Answers
 pub mod Laws
 pub mod Placed
+pub mod ReadFrom
 pub mod Component
 pub mod Part
 pub mod PartLaws
 pub mod LiveLaws
+pub mod Listing
+pub mod ListingWorked

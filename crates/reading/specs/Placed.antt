@@ -12,8 +12,8 @@ use lib.Dec.{eqb}
 use lib.ListN.{length, take, drop, getD, length-drop}
 use lib.Seq.{drop-drop}
 use Rattle.answers.specs.limits.Limits.{maxFile}
-use Rattle.segment.specs.chain.Laws.{All, all-append, all-map}
-use Rattle.segment.specs.chain.Chain.{Found, openOf}
+use Rattle.segment.specs.chain.Laws.{all-append, all-map}
+use Rattle.segment.specs.chain.Chain.{All, Found, openOf}
 use Rattle.segment.specs.chain.Last.{Stands, last-stands}
 use Rattle.segment.specs.Header.{Link, whole}
 use Rattle.segment.specs.Laws.{linkFront, Lies, lies}
@@ -99,7 +99,7 @@ order-in f r e = all-reverse (InFile f) (vectorsOf (live r)) (all-vectors (InFil
 -- ---- the answers
 
 -- an answer that is not that of a file above the limit is made of what opening finds
-at-found : {A : Type 0} (one a : A) (g : Option (Found Link) → A) (f : List ℕ) → (one ≡ a → ⊥) → atOpened one g f ≡ a → g (opened f) ≡ a
+pub at-found : {A : Type 0} (one a : A) (g : Option (Found Link) → A) (f : List ℕ) → (one ≡ a → ⊥) → atOpened one g f ≡ a → g (opened f) ≡ a
 at-found one a g f n e = go (decLe (length f) maxFile)
   where
     go : Dec (length f ≤ maxFile) → g (opened f) ≡ a

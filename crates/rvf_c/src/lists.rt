@@ -2,7 +2,7 @@
 ghost use mathlib.Core.Path.{_≡_};
 ghost use Rattle.answers.specs.Answer.{number, outOf};
 ghost use Rattle.answers.specs.Write.{wroteAnswer, writeAnswer, writeBuffer};
-ghost use Rattle.listing.specs.line.Listing.{listText};
+ghost use Rattle.reading.specs.Listing.{listText};
 use answers::Wrote;
 
 // What the lister prints about a file of at most 65,536 bytes, or that it refuses, at the front of a buffer: its length, or 9.

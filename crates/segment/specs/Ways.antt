@@ -12,9 +12,8 @@ use Rattle.octets.specs.Over.{over}
 use Rattle.octets.specs.Zero.{allZero, sameBytes}
 use Rattle.octets.specs.le.Le.{leBytes}
 use Rattle.crc32c.specs.Crc.{crcOf}
-use Rattle.segment.specs.Header.{all}
+use Rattle.segment.specs.Header.{all, magic, typeHeld, flagsHeld, headSound, headTests, kindIn, flagsIn, idIn, contentHash}
 use Rattle.segment.specs.Tests.{all-fails}
-use Rattle.segment.specs.Header.{magic, typeHeld, flagsHeld, headSound, headTests, kindIn, flagsIn, idIn, contentHash}
 
 -- ---- types
 

@@ -14,7 +14,6 @@ use Rattle.octets.specs.Zero.{allZero}
 use Rattle.octets.specs.le.Le.{leOf}
 use Rattle.answers.specs.Answer.{Accepted}
 use Rattle.segment.specs.chain.Chain.{walk, walkF, Found, upTo, lastConfirmed, openOf, scan}
-use Rattle.segment.specs.chain.Last as last
 use Rattle.segment.specs.Header.{Link, typeHeld, flagsHeld}
 use Rattle.manifest.specs.Sized.{recordBy}
 use Rattle.manifest.specs.Payload.{payloadLength}

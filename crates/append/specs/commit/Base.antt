@@ -14,9 +14,8 @@ use Rattle.octets.specs.OverLaws.{over-then}
 use Rattle.answers.specs.limits.Limits.{maxFile}
 use Rattle.octets.specs.le.Le.{Bytes}
 use Rattle.segment.specs.chain.Laws as C
-use Rattle.segment.specs.chain.Laws.{All}
 use Rattle.segment.specs.chain.Last as last
-use Rattle.segment.specs.chain.Chain.{Found, lastConfirmed, openOf, walk}
+use Rattle.segment.specs.chain.Chain.{All, Found, lastConfirmed, openOf, walk}
 use Rattle.segment.specs.chain.Last.{last-upTo}
 use Rattle.segment.specs.Header.{Link, start, reader}
 use Rattle.segment.specs.Laws.{segment-format}

@@ -36,11 +36,11 @@ twiceBuffer old first second ids ts = laterBuffer (appendBuffer old 0 first [] t
 
 -- what is promised: where both appends are accepted, opening answers what the second reported, and that is the model's manifest and end and the number
 -- of its entries; it is never without a manifest; a refusal is an append's
-unfoldable pub Says : List ℕ → List ℕ → List ℕ → List ℕ → ℕ → Twice → Type 0
-Says old first second ids ts (At offset end id count) =
+unfoldable pub TwicePromise : List ℕ → List ℕ → List ℕ → List ℕ → ℕ → Twice → Type 0
+TwicePromise old first second ids ts (At offset end id count) =
     (Accepted (end ∷ id ∷ count ∷ []) ≡ twiceAnswer old first second ids ts)
     × ((m : Entry)
     × ((twiceModel first second ids ts .manifest ≡ some m)
     × ((offset ≡ m .link .offset) × ((end ≡ twiceModel first second ids ts .end) × ((id ≡ m .link .id) × (count ≡ length (twiceModel first second ids ts .entries)))))))
-Says old first second ids ts Lost = ⊥
-Says old first second ids ts (Refused n) = Refusal n [] ≡ twiceAnswer old first second ids ts
+TwicePromise old first second ids ts Lost = ⊥
+TwicePromise old first second ids ts (Refused n) = Refusal n [] ≡ twiceAnswer old first second ids ts

@@ -13,17 +13,14 @@ use Rattle.manifest.specs.declared.Opened.the-variants as ops
 use Rattle.batch.specs.Form.{bodiesOf}
 use Rattle.appending.specs.declared.Appended.{Appended}
 use Rattle.appending.specs.declared.Appended.the-variants as aps
-use Rattle.appending.specs.Append.{appendedAnswer, newEnd, appendAnswer, appendBuffer, Appends}
+use Rattle.appending.specs.Append.{appendedAnswer, newEnd, appendAnswer, appendBuffer, Appends, Holds}
 use Rattle.appending.specs.Buffer as buffer
-use Rattle.appending.specs.Append.{Holds}
 use Rattle.appending.specs.Buffer.{with-length, file-is}
 use Rattle.claim.specs.Model.{Entry, newManifestEntry, acceptedModel, feed, feedAll}
-use Rattle.claim.specs.Runs.{Call, fedAll, isAccepted, fileAfter, Run, stop, call}
-use Rattle.claim.specs.Reports.{orBefore, ifAccepted, lastAccepted}
-use Rattle.claim.specs.Claim.{empty}
-use Rattle.claim.specs.Demand3.{demand3}
+use Rattle.claim.specs.Demand3.{Call, isAccepted, fileAfter, Run, stop, call, fedAll, empty, orBefore, lastAccepted}
+use Rattle.claim.specs.Theorem.{demand3}
 use Rattle.claim_uses.specs.declared.twice.Twice.the-variants as tws
-use Rattle.claim_uses.specs.twice.Twice.{twiceModel, laterAnswer, laterBuffer, twiceAnswer, twiceBuffer, Says}
+use Rattle.claim_uses.specs.twice.Twice.{twiceModel, laterAnswer, laterBuffer, twiceAnswer, twiceBuffer, TwicePromise}
 
 -- the file after an accepted append is as long as the end answered
 pub file-length : (f old batch ids : List ℕ) (ts : ℕ) (vs new : List ℕ) → ts < 2 ^ 64 → Holds old f → Appends old (length f) batch ids ts (Accepted vs) new
@@ -78,7 +75,7 @@ module _ (old new₁ new₂ first second ids : List ℕ) (ts : ℕ) (t : ts < 2 
     -- and that is what the second append reported
     reported : (m : Entry) → twiceModel first second ids ts .manifest ≡ some m
         → Accepted vs₂ ≡ Accepted (twiceModel first second ids ts .end ∷ m .link .id ∷ length (twiceModel first second ids ts .entries) ∷ [])
-    unfolding twiceModel fedAll isAccepted lastAccepted orBefore ifAccepted
+    unfolding twiceModel fedAll isAccepted lastAccepted orBefore
     reported m e = demand3 empty run .claim .last m e (Accepted vs₂) refl
 
   -- as the function has it: two answers, by cases
@@ -124,8 +121,8 @@ module _ (old new₁ new₂ first second ids : List ℕ) (ts : ℕ) (t : ts < 2 
     unfolding openAnswer
     answered o e m h = ap openedAnswer (sym e) ∙ opens (end₁ ∷ id₁ ∷ count₁ ∷ []) (end₂ ∷ id₂ ∷ count₂ ∷ []) one two m h
 
-    pub way-at : (offset end id count tried : ℕ) → openedCase (take end₂ new₂) ≡ ops.At offset end id count tried → Says old first second ids ts (tws.At offset end id count) × (new₂ ≡ twiceBuffer old first second ids ts)
-    unfolding Says openedAnswer
+    pub way-at : (offset end id count tried : ℕ) → openedCase (take end₂ new₂) ≡ ops.At offset end id count tried → TwicePromise old first second ids ts (tws.At offset end id count) × (new₂ ≡ twiceBuffer old first second ids ts)
+    unfolding TwicePromise openedAnswer
     way-at offset end id count tried e =
         let m = model-manifest first second ids ts in
         let q : Accepted (offset ∷ end ∷ id ∷ count ∷ tried ∷ [])
@@ -140,15 +137,15 @@ module _ (old new₁ new₂ first second ids : List ℕ) (ts : ℕ) (t : ts < 2 
         let same : Accepted (end ∷ id ∷ count ∷ []) ≡ Accepted (end₂ ∷ id₂ ∷ count₂ ∷ []) = cc in
         ((same ∙ both-answer, (m .0, (m .1, (cc, (cc, (cc, cc)))))), both-left)
 
-    pub way-none : (tried : ℕ) → openedCase (take end₂ new₂) ≡ ops.NoManifest tried → Says old first second ids ts tws.Lost × (new₂ ≡ twiceBuffer old first second ids ts)
-    unfolding Says openedAnswer
+    pub way-none : (tried : ℕ) → openedCase (take end₂ new₂) ≡ ops.NoManifest tried → TwicePromise old first second ids ts tws.Lost × (new₂ ≡ twiceBuffer old first second ids ts)
+    unfolding TwicePromise openedAnswer
     way-none tried e =
         let m = model-manifest first second ids ts in
         let q = answered (ops.NoManifest tried) e (m .0) (m .1) in
         absurd (let z : _≡_ {A = ℕ} 0 1 = cc in omega arith)
 
-    pub way-long : (n : ℕ) → openedCase (take end₂ new₂) ≡ ops.Refused n → Says old first second ids ts tws.Lost × (new₂ ≡ twiceBuffer old first second ids ts)
-    unfolding Says openedAnswer
+    pub way-long : (n : ℕ) → openedCase (take end₂ new₂) ≡ ops.Refused n → TwicePromise old first second ids ts tws.Lost × (new₂ ≡ twiceBuffer old first second ids ts)
+    unfolding TwicePromise openedAnswer
     way-long n e =
         let m = model-manifest first second ids ts in
         let q = answered (ops.Refused n) e (m .0) (m .1) in
@@ -156,8 +153,8 @@ module _ (old new₁ new₂ first second ids : List ℕ) (ts : ℕ) (t : ts < 2 
 
 -- the first append refused
 pub way-first : (old new₁ first second ids : List ℕ) (ts : ℕ) (r₁ : Appended) (n : ℕ) → r₁ ≡ aps.Refused n → Appends old 0 first [] ts (appendedAnswer r₁) new₁
-    → Says old first second ids ts (tws.Refused n) × (new₁ ≡ twiceBuffer old first second ids ts)
-unfolding Says twiceAnswer twiceBuffer laterAnswer laterBuffer appendedAnswer
+    → TwicePromise old first second ids ts (tws.Refused n) × (new₁ ≡ twiceBuffer old first second ids ts)
+unfolding TwicePromise twiceAnswer twiceBuffer laterAnswer laterBuffer appendedAnswer
 way-first old new₁ first second ids ts r₁ n e a =
     let q : Refusal n [] ≡ appendAnswer old 0 first [] = sym (ap appendedAnswer e) ∙ a .answers in
     (ap (λ (x : Answer). laterAnswer (appendBuffer old 0 first [] ts) x second ids) q, a .leaves ∙ ap (λ (x : Answer). laterBuffer (appendBuffer old 0 first [] ts) x second ids ts) q)
@@ -165,8 +162,8 @@ way-first old new₁ first second ids ts r₁ n e a =
 -- the second append refused
 pub way-second : (old new₁ new₂ first second ids : List ℕ) (ts : ℕ) (r₁ r₂ : Appended) (end₁ id₁ count₁ n : ℕ) → r₁ ≡ aps.At end₁ id₁ count₁ → r₂ ≡ aps.Refused n
     → Appends old 0 first [] ts (appendedAnswer r₁) new₁ → Appends new₁ end₁ second ids ts (appendedAnswer r₂) new₂
-    → Says old first second ids ts (tws.Refused n) × (new₂ ≡ twiceBuffer old first second ids ts)
-unfolding Says twiceAnswer twiceBuffer laterAnswer laterBuffer appendedAnswer
+    → TwicePromise old first second ids ts (tws.Refused n) × (new₂ ≡ twiceBuffer old first second ids ts)
+unfolding TwicePromise twiceAnswer twiceBuffer laterAnswer laterBuffer appendedAnswer
 way-second old new₁ new₂ first second ids ts r₁ r₂ end₁ id₁ count₁ n e₁ e₂ a₁ a₂ =
     let p : Accepted (end₁ ∷ id₁ ∷ count₁ ∷ []) ≡ appendAnswer old 0 first [] = sym (ap appendedAnswer e₁) ∙ a₁ .answers in
     let q : Refusal n [] ≡ appendAnswer new₁ end₁ second ids = sym (ap appendedAnswer e₂) ∙ a₂ .answers in (

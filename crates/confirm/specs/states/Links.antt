@@ -8,7 +8,8 @@ use mathlib.Core.List.{List, [], _∷_}
 use lib.ListN.{length, take, drop, getD, length-map}
 use lib.Seq.{drop-drop, getD-drop}
 use Rattle.octets.specs.le.Le.{Bytes}
-use Rattle.segment.specs.chain.Laws.{All, afters}
+use Rattle.segment.specs.chain.Chain.{All}
+use Rattle.segment.specs.chain.Laws.{afters}
 use Rattle.segment.specs.chain.Walk.{walk-at}
 use Rattle.segment.specs.Header.{Link, start, reader, linkAt, whole}
 use Rattle.segment.specs.Laws.{segment-format, linkFront, Lies, lies}

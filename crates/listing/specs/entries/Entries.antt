@@ -14,7 +14,7 @@ use Rattle.segment.specs.Header.{Link, noLink}
 use Rattle.segment.specs.index.Offsets.{linkNo}
 use Rattle.manifest.specs.Opening.{opened, states}
 use Rattle.opening.specs.Indexed.{ManifestAt, EntryAt}
-use Rattle.listing.specs.line.Listing.{stateWord, linesOf}
+use Rattle.reading.specs.Listing.{stateWord, linesOf}
 use Rattle.listing.specs.line.Lines.{lineAt, line-at, lines-append}
 
 -- the lines of the first i entries, and of all, of what opening finds

@@ -14,7 +14,7 @@ use Rattle.octets.specs.text.Written.{Written, then}
 use Rattle.segment.specs.Header.{Link}
 use Rattle.segment.specs.Step.{wholeAt}
 use Rattle.segment.specs.index.Numbered.{Numbered}
-use Rattle.listing.specs.line.Listing.{column, checkWord, line, lineOf, stateWord, linesOf}
+use Rattle.reading.specs.Listing.{column, checkWord, line, lineOf, stateWord, linesOf}
 
 -- the line of the segment whose header begins at p, as the file has its fields
 unfoldable pub lineAt : List ℕ → ℕ → List ℕ → List ℕ

@@ -22,7 +22,7 @@ use Rattle.manifest.specs.Opening.{opened, tried, openedCase, foundCase}
 use Rattle.manifest.specs.OpeningLaws.{at-within}
 use Rattle.manifest.specs.declared.Opened.the-variants as ops
 use Rattle.opening.specs.Indexed.{ManifestAt, Indexed, opened-at, opened-end, opened-none, opened-refused, manifest-numbered, manifest-part, manifest-room}
-use Rattle.listing.specs.line.Listing.{maxListed, heading, refusedLine, endLine, listFound, listText}
+use Rattle.reading.specs.Listing.{maxListed, heading, refusedLine, endLine, listFound, listWith, listText}
 use Rattle.listing.specs.line.Lines.{lineAt, line-at}
 use Rattle.listing.specs.entries.Entries.{entryLines}
 
@@ -50,7 +50,7 @@ module _ (f offsets : List ℕ) (offset end count t : ℕ) (b : Bytes f) (s : In
       cc
 
   -- the text of a file that opens
-  list-is : heading ++ (entryLines (opened f) ++ (lineAt f offset (ascii "manifest") ++ endLine end t)) ≡ listFound f (opened f)
+  list-is : heading ++ (entryLines (opened f) ++ (lineAt f offset (ascii "manifest") ++ endLine end t)) ≡ listFound (tried f (opened f)) (opened f)
   unfolding listFound entryLines
   list-is =
       rw (
@@ -62,7 +62,7 @@ module _ (f offsets : List ℕ) (offset end count t : ℕ) (b : Bytes f) (s : In
 
   pub list-written : {t₀ t₁ t₂ t₃ t₄ t₅ : List ℕ} {p₁ p₂ p₃ p₄ p₅ : ℕ} → Written t₀ t₁ 0 heading p₁ → Written t₁ t₂ p₁ (entryLines (opened f)) p₂
       → Written t₂ t₃ p₂ (lineAt f offset (ascii "manifest")) p₃ → Written t₃ t₄ p₃ (ascii "end " ++ (decimal end ++ ascii " tried ")) p₄
-      → Written t₄ t₅ p₄ (decimal t ++ ascii "\n") p₅ → Written t₀ t₅ 0 (listFound f (opened f)) p₅
+      → Written t₄ t₅ p₄ (decimal t ++ ascii "\n") p₅ → Written t₀ t₅ 0 (listFound (tried f (opened f)) (opened f)) p₅
   list-written {t₀} {t₅ = t₅} {p₅ = p₅} w x y z u =
       subst (λ (xs : List ℕ). Written t₀ t₅ 0 xs p₅)
       (ap (λ (xs : List ℕ). heading ++ (entryLines (opened f) ++ (lineAt f offset (ascii "manifest") ++ xs))) (end-pieces end t) ∙ list-is)
@@ -71,16 +71,16 @@ module _ (f offsets : List ℕ) (offset end count t : ℕ) (b : Bytes f) (s : In
 module _ (f : List ℕ) where
   -- above the lister's limit
   pub list-long : maxListed < length f → listText f ≡ refusedLine 1
-  unfolding listText
+  unfolding listText listWith
   list-long h = rw (lt-leb (length f) maxListed h)
 
-  pub list-within : length f ≤ maxListed → listText f ≡ listFound f (opened f)
-  unfolding listText
+  pub list-within : length f ≤ maxListed → listText f ≡ listFound (tried f (opened f)) (opened f)
+  unfolding listText listWith
   list-within h = rw (le-leb (length f) maxListed h)
 
   pub list-none : (t : ℕ) → length f ≤ maxListed → openedCase f ≡ ops.NoManifest t → listText f ≡ refusedLine 2
   unfolding listFound
-  list-none t h e = list-within h ∙ ap (listFound f) (opened-none f t e .1)
+  list-none t h e = list-within h ∙ ap (listFound (tried f (opened f))) (opened-none f t e .1)
 
   -- opening refuses no file within the lister's limit
   pub list-refused : (n : ℕ) → length f ≤ maxListed → openedCase f ≡ ops.Refused n → ⊥
@@ -89,7 +89,7 @@ module _ (f : List ℕ) where
       omega arith
 
   -- what is written is the text: of a file that opens, and of a refusal
-  pub found-written : {t₀ t : List ℕ} {end : ℕ} → length f ≤ maxListed → Written t₀ t 0 (listFound f (opened f)) end → Written t₀ t 0 (listText f) end
+  pub found-written : {t₀ t : List ℕ} {end : ℕ} → length f ≤ maxListed → Written t₀ t 0 (listFound (tried f (opened f)) (opened f)) end → Written t₀ t 0 (listText f) end
   found-written h w = rw (list-within h) w
 
   pub refused-written : {t₀ t : List ℕ} {end : ℕ} (n : ℕ) → listText f ≡ refusedLine n → Written t₀ t 0 (ascii "refused " ++ (decimal n ++ ascii "\n")) end

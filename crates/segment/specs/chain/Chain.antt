@@ -9,6 +9,11 @@ use Prim.Native.Nat.{ℕ, zero, suc}
 use lib.Dec.{leb}
 use lib.ListN.{length, take, drop}
 
+-- each element has the property
+unfoldable pub All : {X : Type 0} → (X → Type 0) → List X → Type 0
+All P [] = Unit {0}
+All P (x ∷ xs) = P x × All P xs
+
 -- how a link is read: what stands at the front of some bytes, how many of them it takes, and what the next one is read with
 pub record Reader (S L : Type 0) : Type 0 where
   pub linkAt : S → List ℕ → Option L

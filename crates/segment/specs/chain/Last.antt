@@ -8,9 +8,8 @@ use mathlib.Core.Logic.{_⊎_, inl, inr, ⊎-elim}
 use mathlib.Core.List.{List, [], _∷_, _++_, append-assoc, append-nil}
 use Prim.Native.Nat.{ℕ, _<_}
 use lib.ListN.{length, take}
-use Rattle.segment.specs.chain.Chain.{Reader, walk, Found, scan, lastConfirmed, upTo, openOf}
+use Rattle.segment.specs.chain.Chain.{All, Reader, walk, Found, scan, lastConfirmed, upTo, openOf}
 use Rattle.segment.specs.chain.Laws as C
-use Rattle.segment.specs.chain.Laws.{All}
 
 module _ {L : Type 0} (confirmed : List L → L → Bool) where
   scan-append : (p xs ys : List L) (best : Option (Found L)) → scan confirmed p (xs ++ ys) best ≡ scan confirmed (p ++ xs) ys (scan confirmed p xs best)

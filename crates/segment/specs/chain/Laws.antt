@@ -9,12 +9,7 @@ use native.Mathlib.Nat.{lt-of-not-le}
 use native.Mathlib.Decide.{decLe}
 use lib.ListN.{length, take, drop, length-drop, take-append-drop}
 use lib.Seq.{drop-append-le, length-take-le, take-add, drop-at}
-use Rattle.segment.specs.chain.Chain.{Reader, walkF, walk}
-
--- each element has the property
-unfoldable pub All : {X : Type 0} → (X → Type 0) → List X → Type 0
-All P [] = Unit {0}
-All P (x ∷ xs) = P x × All P xs
+use Rattle.segment.specs.chain.Chain.{All, Reader, walkF, walk}
 
 pub all-append : {X : Type 0} (P : X → Type 0) (xs ys : List X) → All P xs → All P ys → All P (xs ++ ys)
 unfolding All

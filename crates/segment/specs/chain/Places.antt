@@ -4,8 +4,8 @@ use mathlib.Core.Path.{_≡_, refl, sym, ap, _∙_}
 use mathlib.Core.List.{List, [], _∷_, _++_, head-eq-of-cons-eq, tail-eq-of-cons-eq}
 use Prim.Native.Nat.{_+_, _≤_, _<_}
 use native.Mathlib.Omega.{arith}
-use Rattle.segment.specs.chain.Chain.{Reader}
-use Rattle.segment.specs.chain.Laws.{All, sizes}
+use Rattle.segment.specs.chain.Chain.{All, Reader}
+use Rattle.segment.specs.chain.Laws.{sizes}
 use Rattle.segment.specs.chain.Walk.{sizes-append}
 
 module _ {S L : Type 0} (R : Reader S L) where

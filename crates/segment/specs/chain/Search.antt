@@ -15,9 +15,9 @@ use lib.ListN.{length, take, getD}
 use lib.Seq.{take-suc, take-length}
 use lib.Dec.{ltb}
 use borrow.Author.Tests.{lt-ltb}
-use Rattle.segment.specs.chain.Chain.{lastConfirmed, scan, Reader}
+use Rattle.segment.specs.chain.Chain.{All, lastConfirmed, scan, Reader}
 use Rattle.segment.specs.chain.Last.{last-snoc, last-at-end}
-use Rattle.segment.specs.chain.Laws.{All, sizes}
+use Rattle.segment.specs.chain.Laws.{sizes}
 
 module _ {L : Type 0} (confirmed : List L → L → Bool) where
   -- one link less: it is the one, or the search goes on among those before it

@@ -7,8 +7,8 @@ use Prim.Native.Nat.{ℕ, suc, _+_, _-_, _≤_}
 use native.Mathlib.Omega.{arith}
 use lib.ListN.{length, take, drop, length-take, length-drop, take-append-drop}
 use lib.Seq.{take-all, take-add, drop-drop}
-use Rattle.segment.specs.chain.Chain.{Reader, walk}
-use Rattle.segment.specs.chain.Laws.{All, Format, Exact, walk-none, walk-some, afters, afters-append, sizes, exact-take, exact-length}
+use Rattle.segment.specs.chain.Chain.{All, Reader, walk}
+use Rattle.segment.specs.chain.Laws.{Format, Exact, walk-none, walk-some, afters, afters-append, sizes, exact-take, exact-length}
 
 module _ {S L : Type 0} (R : Reader S L) where
   open Reader R using (linkAt, size, after)

@@ -1,4 +1,4 @@
--- The drop-out of demand 3: the last accepted append, cut anywhere before its last byte, leaves every reading call answering as before it.
+-- A list's last accepted append, cut short: every reading call answers as on the file that it got.
 -- Assumes nothing.
 use Prim.Native.Nat.{ℕ, _+_, _-_, _^_, _≤_, _<_}
 use mathlib.Core.Path.{_≡_, refl, sym, ap, ap₂, _∙_}
@@ -9,46 +9,36 @@ use native.Mathlib.Omega.{arith}
 use lib.Dec.{ltb}
 use lib.ListN.{length, take, getD, length-take, length-append}
 use lib.Seq.{take-take, length-take-le}
-use borrow.Author.Tests.{lt-ltb, le-ltb, ltb-false}
+use borrow.Author.Tests.{le-leb, lt-ltb, le-ltb, ltb-false}
 use Rattle.answers.specs.limits.Limits.{maxFile}
 use Rattle.answers.specs.Answer.{Answer, Accepted, Refusal}
 use Rattle.segment.specs.chain.Chain.{Found}
 use Rattle.segment.specs.Header.{Link}
 use Rattle.segment.specs.Laws.{size-least}
-use Rattle.manifest.specs.Opening.{opened, foundCase, openedAnswer, openAnswer}
+use Rattle.manifest.specs.Opening.{opened, foundCase, openedAnswer}
 use Rattle.manifest.specs.OpeningLaws.{open-within, answers-alike}
 use Rattle.manifest.specs.Directory.{entryIn, entryCase}
 use Rattle.manifest.specs.declared.DirectoryEntry.the-variants.{Refused as NotOpened}
 use Rattle.reading.specs.Answers.{NotHanded, partFound, partIn, Bad, hitFound, hitIn, vectorHit, bufferHit, vectorCase, vectorAfter, valueHit, valueIn}
+use Rattle.reading.specs.Listing.{maxListed, listWith}
 use Rattle.batch.specs.Form.{bodiesOf}
-use Rattle.appending.specs.Append.{startOf, newEnd, newBytes, checked, isNone, appendChecks, answerOn, appendAnswer, Appends}
+use Rattle.appending.specs.Append.{startOf, newEnd, newBytes, checked, isNone, appendChecks, answerOn, appendAnswer, Appends, Holds}
 use Rattle.appending.specs.Opens.{kept, cutFile, new-length}
 use Rattle.appending.specs.Buffer.{start-inside, open-cut, Appended, appended, answer-is, some-new}
-use Rattle.appending.specs.Append.{Holds}
-use Rattle.claim.specs.Runs.{Call, fileAfter, Run, stop, call}
-use Rattle.claim.specs.Reports.{orBefore, ifAccepted, lastAccepted}
+use Rattle.claim.specs.Demand3.{Call, fileAfter, Run, stop, call, orBefore, lastAccepted, withoutTried, Alike, LastAppend, cutAt}
+use Rattle.claim.specs.Reports.{refused-run}
 
 -- ---- answers alike
-
--- 'only the boundaries tried (the places searched) may differ': opening's answer without them
-unfoldable pub withoutTried : Answer → Answer
-withoutTried (Accepted vs) = Accepted (take 4 vs)
-withoutTried (Refusal n vs) = Refusal n []
-
--- 'A reading answer is all that a call answers about a lent file it doesn't write: numbers, refusal, bytes written to a buffer, a part by its place,
--- length and bytes': every reading call answers alike on two files
-pub record Alike (f g : List ℕ) : Type 0 where
-  pub opening : withoutTried (openAnswer f) ≡ withoutTried (openAnswer g)
-  pub entry : (i : ℕ) → entryCase f i ≡ entryCase g i
-  pub payload : (id : ℕ) → partIn f id ≡ partIn g id
-  pub vector : (id : ℕ) (buf : List ℕ) → vectorCase f id buf ≡ vectorCase g id buf
-  pub buffer : (id : ℕ) (buf : List ℕ) → vectorAfter f id buf ≡ vectorAfter g id buf
-  pub component : (id i : ℕ) → valueIn f id i ≡ valueIn g id i
 
 tried-apart : (f g : List ℕ) (o : Option (Found Link)) → withoutTried (openedAnswer (foundCase f o)) ≡ withoutTried (openedAnswer (foundCase g o))
 unfolding withoutTried openedAnswer foundCase
 tried-apart f g none = refl
 tried-apart f g (some r) = refl
+
+-- the lister's text goes by what opening finds and by the number in the place of the boundaries tried
+listed-alike : (f g : List ℕ) → length f ≤ maxListed → length g ≤ maxListed → (t : ℕ) → opened f ≡ opened g → listWith t f ≡ listWith t g
+unfolding listWith
+listed-alike f g h k t e = rw (le-leb (length f) maxListed h, le-leb (length g) maxListed k, e)
 
 -- all of them are functions of what opening finds
 pub alike : (f g : List ℕ) → length f ≤ maxFile → length g ≤ maxFile → opened f ≡ opened g → Alike f g
@@ -65,44 +55,15 @@ alike f g h k e =
       vector = λ id buf. ap (vectorHit buf) (hit id);
       buffer = λ id buf. ap (bufferHit buf) (hit id);
       component = λ id i. ap (valueHit i) (hit id);
+      listing = λ p q t. listed-alike f g p q t e;
     }
-
--- ---- refused appends leave the file
-
-refused-run : {f g : List ℕ} {cs : List Call} → Run f cs g → lastAccepted cs ≡ none → g ≡ f
-unfolding lastAccepted orBefore ifAccepted fileAfter
-refused-run stop e = refl
-refused-run (call {f = f} {new = new} {answer = answer} {cs = cs} h t p r) e =
-    let z = parts (lastAccepted cs) answer e in
-    refused-run r (z .0) ∙ z .1
-  where
-    parts : (o : Option Answer) (a : Answer) → orBefore o (ifAccepted a) ≡ none → (o ≡ none) × (fileAfter f new a ≡ f)
-    parts (some b) a q = absurd (let w : _≡_ {A = ℕ} 0 1 = cc in omega arith)
-    parts none (Accepted vs) q = absurd (let w : _≡_ {A = ℕ} 0 1 = cc in omega arith)
-    parts none (Refusal n vs) q = (refl, refl)
 
 -- ---- the cut
 
--- the last accepted append of a run: the file f that it got, the call, and the file g after it and after refused calls
-pub record LastAppend (f g : List ℕ) : Type 0 where
-  pub old : List ℕ
-  pub new : List ℕ
-  pub batch : List ℕ
-  pub retiring : List ℕ
-  pub timestamp : ℕ
-  pub values : List ℕ
-  pub later : List Call
-  pub holds : Holds old f
-  pub timestamp-fits : timestamp < 2 ^ 64
-  pub appends : Appends old (length f) batch retiring timestamp (Accepted values) new
-  pub then : Run (take (getD values 0 0) new) later g
-  pub refused : lastAccepted later ≡ none
+module _ {f₀ g : List ℕ} {cs : List Call} (l : LastAppend f₀ cs g) where
+  abbrev f : List ℕ
+  f = l .got
 
--- 'A cut file is the bytes up to the start and the first k new ones, k from 0 to new end - start - 1'
-unfoldable pub cutAt : List ℕ → List ℕ → ℕ → List ℕ
-cutAt f g k = take (startOf (opened f) + k) g
-
-module _ (f g : List ℕ) (l : LastAppend f g) where
   w : Appended f (l .old) (l .batch) (l .retiring) (l .timestamp) (l .values) (l .new)
   w = appended f (l .old) (l .batch) (l .retiring) (l .timestamp) (l .holds) (l .values) (l .new) (l .appends)
 
@@ -127,7 +88,7 @@ module _ (f g : List ℕ) (l : LastAppend f g) where
         ∙ some-new f (l .old) (l .batch) (l .retiring) (l .timestamp) (l .values) (l .new) w k (omega (arith, below))
 
     cut-opens : opened (cutAt f g k) ≡ opened f
-    cut-opens = ap opened cut-is ∙ open-cut f (length (l .old)) (length f) (l .batch) (l .retiring) (l .timestamp) (l .timestamp-fits) (w .fits) k below
+    cut-opens = ap opened cut-is ∙ open-cut f (length (l .old)) (length f) (l .batch) (l .retiring) (l .timestamp) (l .fits) (w .fits) k below
 
     cut-fits : length (cutAt f g k) ≤ maxFile
     unfolding cutAt
@@ -173,47 +134,56 @@ module _ (f g : List ℕ) (l : LastAppend f g) where
             ∙ ap (λ (o : Option (Found Link)). answerOn (length old) (length (cutAt f g k)) o batch ids) (cut-opens ∙ start-none e)
             ∙ first-tests (length old) (length (cutAt f g k)) batch ids cut-fits (omega (arith, cut-length))
 
--- ---- of every run
+-- ---- every list with an accepted append has a last one
 
--- the last accepted append of a run, with the run before it
-pub record Dropped (f₀ : List ℕ) (cs : List Call) (g : List ℕ) : Type 0 where
-  pub got : List ℕ
-  pub earlier : List Call
-  pub run : Run f₀ earlier got
-  pub append : LastAppend got g
-
-pub last-append : {f₀ g : List ℕ} {cs : List Call} → Run f₀ cs g → (a : Answer) → lastAccepted cs ≡ some a → Dropped f₀ cs g
-unfolding lastAccepted orBefore ifAccepted fileAfter
+pub last-append : {f₀ g : List ℕ} {cs : List Call} → Run f₀ cs g → (a : Answer) → lastAccepted cs ≡ some a → LastAppend f₀ cs g
+unfolding lastAccepted orBefore fileAfter
 last-append stop a e = absurd (let w : _≡_ {A = ℕ} 0 1 = cc in omega arith)
 last-append (call {f = f} {g = g} {old = old} {new = new} {batch = batch} {ids = ids} {ts = ts} {answer = answer} {cs = cs} h t p r) a e =
     go (lastAccepted cs) refl answer h t p r e (λ z. last-append r a z)
   where
     go : (o : Option Answer) → lastAccepted cs ≡ o → (answer : Answer) → Holds old f → ts < 2 ^ 64 → Appends old (length f) batch ids ts answer new
-        → Run (fileAfter f new answer) cs g → orBefore o (ifAccepted answer) ≡ some a
-        → (lastAccepted cs ≡ some a → Dropped (fileAfter f new answer) cs g)
-        → Dropped f (record { batch = batch; retiring = ids; timestamp = ts; answer = answer } ∷ cs) g
+        → Run (fileAfter f new answer) cs g → orBefore o answer ≡ some a
+        → (lastAccepted cs ≡ some a → LastAppend (fileAfter f new answer) cs g)
+        → LastAppend f (record { batch = batch; retiring = ids; timestamp = ts; answer = answer } ∷ cs) g
     go (some b) q answer h t p r z ih =
         let d = ih (q ∙ z) in
-        record { got = d .got; earlier = record { batch = batch; retiring = ids; timestamp = ts; answer = answer } ∷ d .earlier; run = call h t p (d .run); append = d .append }
+        let c : Call = record { batch = batch; retiring = ids; timestamp = ts; answer = answer } in
+        record {
+          earlier = c ∷ d .earlier;
+          got = d .got;
+          run = call h t p (d .run);
+          old = d .old;
+          new = d .new;
+          batch = d .batch;
+          retiring = d .retiring;
+          timestamp = d .timestamp;
+          values = d .values;
+          holds = d .holds;
+          fits = d .fits;
+          appends = d .appends;
+          later = d .later;
+          then = d .then;
+          refused = d .refused;
+          split = ap (λ (xs : List Call). record { batch = batch; retiring = ids; timestamp = ts; answer = answer } ∷ xs) (d .split);
+        }
     go none q (Accepted vs) h t p r z ih =
         record {
-          got = f;
           earlier = [];
+          got = f;
           run = stop;
-          append =
-              record {
-                old = old;
-                new = new;
-                batch = batch;
-                retiring = ids;
-                timestamp = ts;
-                values = vs;
-                later = cs;
-                holds = h;
-                timestamp-fits = t;
-                appends = p;
-                then = r;
-                refused = q;
-              };
+          old = old;
+          new = new;
+          batch = batch;
+          retiring = ids;
+          timestamp = ts;
+          values = vs;
+          holds = h;
+          fits = t;
+          appends = p;
+          later = cs;
+          then = r;
+          refused = q;
+          split = refl;
         }
     go none q (Refusal n vs) h t p r z ih = absurd (let w : _≡_ {A = ℕ} 0 1 = cc in omega arith)

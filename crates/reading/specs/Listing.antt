@@ -51,14 +51,17 @@ linesOf (l ∷ ls) ss = lineOf l (stateWord (getD ss 0 0)) ++ linesOf ls (drop 1
 unfoldable pub endLine : ℕ → ℕ → List ℕ
 endLine end t = ascii "end " ++ (decimal end ++ (ascii " tried " ++ (decimal t ++ ascii "\n")))
 
--- 'Then the file's manifest, and last its end and the boundaries tried'
-unfoldable pub listFound : List ℕ → Option (Found Link) → List ℕ
-listFound f none = refusedLine 2
-listFound f (some r) =
+-- 'Then the file's manifest, and last its end and the boundaries tried', of which there are t
+unfoldable pub listFound : ℕ → Option (Found Link) → List ℕ
+listFound t none = refusedLine 2
+listFound t (some r) =
     heading
     ++ (linesOf (r .before) (states r)
-    ++ (lineOf (r .link) (ascii "manifest") ++ endLine (r .link .offset + size (r .link)) (tried f (some r))))
+    ++ (lineOf (r .link) (ascii "manifest") ++ endLine (r .link .offset + size (r .link)) t))
 
--- the whole text: 1 above the lister's limit, before anything else is looked at
+-- the whole text: 1 above the lister's limit, before anything else is looked at; with some number, and with the boundaries tried
+unfoldable pub listWith : ℕ → List ℕ → List ℕ
+listWith t f = cond (leb (length f) maxListed) (listFound t (opened f)) (refusedLine 1)
+
 unfoldable pub listText : List ℕ → List ℕ
-listText f = cond (leb (length f) maxListed) (listFound f (opened f)) (refusedLine 1)
+listText f = listWith (tried f (opened f)) f

@@ -1,54 +1,28 @@
--- THE CLAIM of document 01's demand 3, over every list of appends, accepted or refused: opening the file afresh gives what the last accepted append
--- reported and exactly what the model holds.
+-- The claim holds of every list: what agreement with the model says of the calls, and what each call leaves alone.
 -- Assumes nothing.
-use Prim.Native.Nat.{ℕ, _+_, _-_, _/_, _≤_}
+use Prim.Native.Nat.{ℕ, _+_, _-_, _/_, _^_, _<_}
 use mathlib.Core.Path.{_≡_, refl, sym, ap, _∙_}
-use mathlib.Core.Bool.{cond}
-use mathlib.Core.Option.{Option, none, some}
+use mathlib.Core.Bool.{true, true≢false}
+use mathlib.Core.Option.{Option, none, some, Option·some-injective}
 use mathlib.Core.List.{List, [], _∷_, _++_}
 use native.Mathlib.Omega.{arith}
-use lib.Dec.{leb}
-use lib.ListN.{length, take, drop, getD, length-map, length-append}
-use Rattle.answers.specs.limits.Limits.{maxFile}
+use lib.ListN.{length, take, getD, length-map, length-append}
 use Rattle.answers.specs.Answer.{Answer, Accepted, Refusal}
-use Rattle.segment.specs.chain.Laws.{All}
-use Rattle.segment.specs.chain.Chain.{Found, upTo}
-use Rattle.segment.specs.Header.{Link, size, noLink}
+use Rattle.segment.specs.chain.Chain.{All, Found, upTo}
+use Rattle.segment.specs.Header.{Link, size}
 use Rattle.manifest.specs.Opening.{opened, states, tried, foundCase, openedAnswer, openAnswer}
 use Rattle.manifest.specs.OpeningLaws.{at-within, open-within}
-use Rattle.manifest.specs.Directory.{entryOf, entryIn, entryCase}
-use Rattle.manifest.specs.declared.DirectoryEntry.{DirectoryEntry}
-use Rattle.manifest.specs.declared.DirectoryEntry.the-variants.{NoEntry, Refused as NotOpened}
+use Rattle.manifest.specs.Directory.{entryIn, entryCase}
+use Rattle.manifest.specs.declared.DirectoryEntry.the-variants.{Refused as NotOpened}
 use Rattle.reading.specs.Part.{InFile}
 use Rattle.reading.specs.Placed.{before-in}
 use Rattle.batch.specs.Form.{bodiesOf}
-use Rattle.appending.specs.Append.{startOf, oldStates, keptLinks, newEnd, bufferOn, appendBuffer, Appends}
-use Rattle.appending.specs.Append.{Holds}
-use Rattle.appending.specs.Buffer.{Appended, appended, before-start, behind-end}
-use Rattle.claim.specs.Model.{Entry, linksOf, statesOf, Model, emptyModel, modelOf, ifAny, feedAll}
-use Rattle.claim.specs.Runs.{Call, fedAll, Run, stop, call}
+use Rattle.appending.specs.Append.{startOf, oldStates, keptLinks, newEnd, bufferOn, appendBuffer, Appends, Holds}
+use Rattle.appending.specs.Buffer.{Appended, appended, before-start, behind-end, file-is, with-length}
+use Rattle.claim.specs.Model.{Entry, linksOf, statesOf, Model, ifAny, feedAll}
+use Rattle.claim.specs.Demand3.{Call, isAccepted, fileAfter, Run, stop, call, fedAll, Starts, empty, opens, entryBy, orBefore, lastAccepted, Claim, LeftAlone, Untouched}
 use Rattle.claim.specs.Agree.{Agree, foundBy, run-agrees, agree-empty, agree-opened}
-use Rattle.claim.specs.Reports.{lastAccepted, reported, last-reported, Recorded, recorded-all}
-
--- the directory's entry with an index, as the model has it
-unfoldable pub entryBy : List Entry → ℕ → DirectoryEntry
-entryBy es i = cond (leb (length es) i) NoEntry (entryOf (getD (linksOf es) i noLink) (getD (statesOf es) i 0))
-
--- after a list of calls: the file and the model
-pub record Claim (cs : List Call) (g : List ℕ) (k : Model) : Type 0 where
-  -- 'After the list, opening refuses 2 if the book has no manifest'
-  pub refuses : k .manifest ≡ none → openAnswer g ≡ Refusal 2 (length g / 64 ∷ [])
-  -- 'Else it answers that manifest's offset and id, the book's end, and as c the number of its entries'
-  pub answers : (m : Entry) → k .manifest ≡ some m
-      → openAnswer g ≡ Accepted (m .link .offset ∷ k .end ∷ m .link .id ∷ length (k .entries) ∷ (length g / 64 - m .link .offset / 64) ∷ [])
-  -- 'the directory is those entries'
-  pub directory : (m : Entry) → k .manifest ≡ some m → (i : ℕ) → entryCase g i ≡ entryBy (k .entries) i
-  -- 'The last accepted append answered the same end, id and c'
-  pub last : (m : Entry) → k .manifest ≡ some m → (a : Answer) → lastAccepted cs ≡ some a
-      → a ≡ Accepted (k .end ∷ m .link .id ∷ length (k .entries) ∷ [])
-  -- 'Each accepted body lies at its entry's offset + 64': every entry's payload lies there, and every accepted body has its entry
-  pub lies : All (InFile g) (linksOf (k .entries))
-  pub recorded : All (Recorded (linksOf (k .entries))) cs
+use Rattle.claim.specs.Reports.{reported, last-reported, refused-run}
 
 -- ---- what agreement says of the calls
 
@@ -100,40 +74,72 @@ module _ (g : List ℕ) (k : Model) (a : Agree g k) where
 
 -- ---- the files that a list may start from
 
--- 'For an empty file', and 'for one that opens', each with its model
-pub data Starts : List ℕ → Model → Type 0 where
-  empty : Starts [] emptyModel
-  opens : {f : List ℕ} {r : Found Link} → length f ≤ maxFile → opened f ≡ some r → Starts f (modelOf r)
-
 pub starts-agree : {f : List ℕ} {k : Model} → Starts f k → Agree f k
 starts-agree empty = agree-empty
 starts-agree (opens {f = f} {r = r} h e) = agree-opened f r h e
 
--- THE THEOREM: whatever calls were made, each as the contract of an append says, the claim holds of the file and the model after them
+-- ---- the file ends where the last accepted append said
+
+-- after an accepted append the file is as long as its end
+pub accepted-length : (f old new batch ids vs : List ℕ) (ts : ℕ) → ts < 2 ^ 64 → Holds old f → Appends old (length f) batch ids ts (Accepted vs) new
+    → length (take (getD vs 0 0) new) ≡ getD vs 0 0
+accepted-length f old new batch ids vs ts t h p =
+    let w : Appended f old batch ids ts vs new = appended f old batch ids ts h vs new p in
+    let e : getD vs 0 0 ≡ newEnd (opened f) (bodiesOf batch) = ap (λ (x : List ℕ). getD x 0 0) (w .values) in
+    ap (λ (n : ℕ). length (take n new)) e
+    ∙ ap length (file-is f old batch ids ts vs new w)
+    ∙ with-length f (length old) (length f) batch ids ts t (w .fits)
+    ∙ sym e
+
+-- what the last accepted append answered is no refusal
+some-accepted : (cs : List Call) (a : Answer) → lastAccepted cs ≡ some a → isAccepted a ≡ true
+unfolding lastAccepted orBefore isAccepted
+some-accepted [] a e = absurd (let w : _≡_ {A = ℕ} 0 1 = cc in omega arith)
+some-accepted (c ∷ cs) a e = go (lastAccepted cs) refl (c .answer) e (some-accepted cs a)
+  where
+    go : (o : Option Answer) → lastAccepted cs ≡ o → (b : Answer) → orBefore o b ≡ some a → (lastAccepted cs ≡ some a → isAccepted a ≡ true) → isAccepted a ≡ true
+    go (some x) q b z ih = ih (q ∙ z)
+    go none q (Accepted vs) z ih = ap isAccepted (sym (Option·some-injective _ _ z))
+    go none q (Refusal n vs) z ih = absurd (let w : _≡_ {A = ℕ} 0 1 = cc in omega arith)
+
+-- the end that an append answers
+unfoldable firstOf : Answer → ℕ
+firstOf (Accepted vs) = getD vs 0 0
+firstOf (Refusal n vs) = 0
+
+run-ends : {f g : List ℕ} {cs : List Call} → Run f cs g → (a : Answer) → lastAccepted cs ≡ some a → length g ≡ firstOf a
+unfolding lastAccepted orBefore fileAfter firstOf
+run-ends stop a e = absurd (let w : _≡_ {A = ℕ} 0 1 = cc in omega arith)
+run-ends (call {f = f} {g = g} {old = old} {new = new} {batch = batch} {ids = ids} {ts = ts} {answer = answer} {cs = cs} h t p r) a e =
+    go (lastAccepted cs) refl answer p r e (λ z. run-ends r a z)
+  where
+    go : (o : Option Answer) → lastAccepted cs ≡ o → (answer : Answer) → Appends old (length f) batch ids ts answer new
+        → Run (fileAfter f new answer) cs g → orBefore o answer ≡ some a → (lastAccepted cs ≡ some a → length g ≡ firstOf a) → length g ≡ firstOf a
+    go (some b) q answer p r z ih = ih (q ∙ z)
+    go none q (Accepted vs) p r z ih =
+        ap length (refused-run r q) ∙ accepted-length f old new batch ids vs ts t h p ∙ ap firstOf (Option·some-injective _ _ z)
+    go none q (Refusal n vs) p r z ih = absurd (let w : _≡_ {A = ℕ} 0 1 = cc in omega arith)
+
+-- ---- whatever calls were made, each as the contract of an append says, the claim holds of the file and the model after them
+
 pub every-run : {f g : List ℕ} {cs : List Call} {k : Model} → Starts f k → Run f cs g → Claim cs g (feedAll (fedAll cs) k)
-unfolding reported
-every-run {cs = cs} {k = k} s r =
+unfolding reported firstOf isAccepted
+every-run {g = g} {cs = cs} {k = k} s r =
     let a = run-agrees k r (starts-agree s) in
-    let after = feedAll (fedAll cs) k in
     record {
       refuses = opening-refuses _ _ a;
       answers = opening-answers _ _ a;
       directory = directory-is _ _ a;
       last = λ m e x q. last-reported k r (starts-agree s) x q ∙ ap (reported (feedAll (fedAll cs) k)) e;
+      ends = λ x q. run-ends r x q ∙ ends-at (feedAll (fedAll cs) k .manifest) x (last-reported k r (starts-agree s) x q) (some-accepted cs x q);
       lies = entries-lie _ _ a;
-      recorded = recorded-all cs k;
     }
+  where
+    ends-at : (o : Option Entry) (x : Answer) → x ≡ reported (feedAll (fedAll cs) k) o → isAccepted x ≡ true → firstOf x ≡ feedAll (fedAll cs) k .end
+    ends-at none x e q = absurd (true≢false (sym q ∙ ap isAccepted e))
+    ends-at (some m) x e q = ap firstOf e
 
 -- ---- what each call leaves alone
-
--- 'Bytes before the start and from the new end on keep their values'; a refused call changes nothing
-unfoldable pub LeftAlone : List ℕ → List ℕ → List ℕ → Answer → Type 0
-LeftAlone f old new (Accepted vs) = (take (startOf (opened f)) new ≡ take (startOf (opened f)) old) × (drop (getD vs 0 0) new ≡ drop (getD vs 0 0) old)
-LeftAlone f old new (Refusal n vs) = new ≡ old
-
-unfoldable pub Untouched : {f g : List ℕ} {cs : List Call} → Run f cs g → Type 0
-Untouched stop = Unit {0}
-Untouched (call {f = f} {old = old} {new = new} {answer = answer} h t p r) = LeftAlone f old new answer × Untouched r
 
 call-leaves : (f old new batch ids : List ℕ) (ts : ℕ) (answer : Answer) → Holds old f → Appends old (length f) batch ids ts answer new → LeftAlone f old new answer
 unfolding LeftAlone appendBuffer bufferOn
