@@ -30,34 +30,46 @@ loop-holds c = end-first _ _
 
 mul-u32-at : tie.Need-mul-u32-at Inv-loop μ-loop
 mul-u32-at c =
-    let n = bodies-count (c .before .before .before .before .args .batch .now) in
-    let k = count-is (c .before .before .before .before .args .batch .now) (c .before .before .u32-at .result) (c .before .before .u32-at .ensures) in
-    let q = held-bounds (c .before .before .before .before .args .batch .now) (c .before .before .before .before .pre .0) in
-    let a = body-at (c .before .before .before .before .args .batch .now) (c .before .before .before .before .pre .0) (c .before .loop .j) (omega arith) in
+    let ua = c .before .before in
+    let s = ua .before .before in
+    let batch = s .args .batch .now in
+    let n = bodies-count batch in
+    let k = count-is batch (ua .u32-at .result) (ua .u32-at .ensures) in
+    let q = held-bounds batch (s .pre .0) in
+    let a = body-at batch (s .pre .0) (c .before .loop .j) (omega arith) in
     omega (arith, a .line-room)
 
 add-u32-at : tie.Need-add-u32-at Inv-loop μ-loop
 add-u32-at c =
-    let n = bodies-count (c .before .before .before .before .args .batch .now) in
-    let k = count-is (c .before .before .before .before .args .batch .now) (c .before .before .u32-at .result) (c .before .before .u32-at .ensures) in
-    let q = held-bounds (c .before .before .before .before .args .batch .now) (c .before .before .before .before .pre .0) in
-    let a = body-at (c .before .before .before .before .args .batch .now) (c .before .before .before .before .pre .0) (c .before .loop .j) (omega arith) in
+    let ua = c .before .before in
+    let s = ua .before .before in
+    let batch = s .args .batch .now in
+    let n = bodies-count batch in
+    let k = count-is batch (ua .u32-at .result) (ua .u32-at .ensures) in
+    let q = held-bounds batch (s .pre .0) in
+    let a = body-at batch (s .pre .0) (c .before .loop .j) (omega arith) in
     omega (arith, a .line-room)
 
 add-u32-at-2 : tie.Need-add-u32-at-2 Inv-loop μ-loop
 add-u32-at-2 c =
-    let n = bodies-count (c .before .before .before .before .args .batch .now) in
-    let k = count-is (c .before .before .before .before .args .batch .now) (c .before .before .u32-at .result) (c .before .before .u32-at .ensures) in
-    let q = held-bounds (c .before .before .before .before .args .batch .now) (c .before .before .before .before .pre .0) in
-    let a = body-at (c .before .before .before .before .args .batch .now) (c .before .before .before .before .pre .0) (c .before .loop .j) (omega arith) in
+    let ua = c .before .before in
+    let s = ua .before .before in
+    let batch = s .args .batch .now in
+    let n = bodies-count batch in
+    let k = count-is batch (ua .u32-at .result) (ua .u32-at .ensures) in
+    let q = held-bounds batch (s .pre .0) in
+    let a = body-at batch (s .pre .0) (c .before .loop .j) (omega arith) in
     omega (arith, a .line-room)
 
 u32-at-requires-2 : tie.Need-u32-at-requires-2 Inv-loop μ-loop
 u32-at-requires-2 c κs =
-    let n = bodies-count (c .before .before .before .before .args .batch .now) in
-    let k = count-is (c .before .before .before .before .args .batch .now) (c .before .before .u32-at .result) (c .before .before .u32-at .ensures) in
-    let q = held-bounds (c .before .before .before .before .args .batch .now) (c .before .before .before .before .pre .0) in
-    let a = body-at (c .before .before .before .before .args .batch .now) (c .before .before .before .before .pre .0) (c .before .loop .j) (omega arith) in
+    let ua = c .before .before in
+    let s = ua .before .before in
+    let batch = s .args .batch .now in
+    let n = bodies-count batch in
+    let k = count-is batch (ua .u32-at .result) (ua .u32-at .ensures) in
+    let q = held-bounds batch (s .pre .0) in
+    let a = body-at batch (s .pre .0) (c .before .loop .j) (omega arith) in
     omega (arith, a .line-room)
 
 cast-length : tie.Need-cast-length Inv-loop μ-loop
@@ -68,28 +80,37 @@ round-up-requires c κs = search needs
 
 add-at : tie.Need-add-at Inv-loop μ-loop
 add-at c =
-    let n = bodies-count (c .before .before .before .before .before .before .args .batch .now) in
-    let k = count-is (c .before .before .before .before .before .before .args .batch .now) (c .before .before .before .before .u32-at .result) (c .before .before .before .before .u32-at .ensures) in
-    let q = held-bounds (c .before .before .before .before .before .before .args .batch .now) (c .before .before .before .before .before .before .pre .0) in
-    let a = body-at (c .before .before .before .before .before .before .args .batch .now) (c .before .before .before .before .before .before .pre .0) (c .before .before .before .loop .j) (omega arith) in
+    let l′ = c .before .before .before in
+    let s = l′ .before .before .before in
+    let batch = s .args .batch .now in
+    let n = bodies-count batch in
+    let k = count-is batch (l′ .before .u32-at .result) (l′ .before .u32-at .ensures) in
+    let q = held-bounds batch (s .pre .0) in
+    let a = body-at batch (s .pre .0) (l′ .loop .j) (omega arith) in
     let l = round64-lt (c .before .u32-at2 .result) in
-    omega (arith, c .before .before .before .loop .inv .small, c .round-up .ensures, c .before .before .before .before .before .before .pre .1)
+    omega (arith, l′ .loop .inv .small, c .round-up .ensures, s .pre .1)
 
 add-at-2 : tie.Need-add-at-2 Inv-loop μ-loop
 add-at-2 c =
-    let n = bodies-count (c .before .before .before .before .before .before .args .batch .now) in
-    let k = count-is (c .before .before .before .before .before .before .args .batch .now) (c .before .before .before .before .u32-at .result) (c .before .before .before .before .u32-at .ensures) in
-    let q = held-bounds (c .before .before .before .before .before .before .args .batch .now) (c .before .before .before .before .before .before .pre .0) in
-    let a = body-at (c .before .before .before .before .before .before .args .batch .now) (c .before .before .before .before .before .before .pre .0) (c .before .before .before .loop .j) (omega arith) in
+    let l′ = c .before .before .before in
+    let s = l′ .before .before .before in
+    let batch = s .args .batch .now in
+    let n = bodies-count batch in
+    let k = count-is batch (l′ .before .u32-at .result) (l′ .before .u32-at .ensures) in
+    let q = held-bounds batch (s .pre .0) in
+    let a = body-at batch (s .pre .0) (l′ .loop .j) (omega arith) in
     let l = round64-lt (c .before .u32-at2 .result) in
-    omega (arith, c .before .before .before .loop .inv .small, c .round-up .ensures, c .before .before .before .before .before .before .pre .1)
+    omega (arith, l′ .loop .inv .small, c .round-up .ensures, s .pre .1)
 
 add-j : tie.Need-add-j Inv-loop μ-loop
 add-j c =
-    let n = bodies-count (c .before .before .before .before .before .before .args .batch .now) in
-    let k = count-is (c .before .before .before .before .before .before .args .batch .now) (c .before .before .before .before .u32-at .result) (c .before .before .before .before .u32-at .ensures) in
-    let q = held-bounds (c .before .before .before .before .before .before .args .batch .now) (c .before .before .before .before .before .before .pre .0) in
-    let a = body-at (c .before .before .before .before .before .before .args .batch .now) (c .before .before .before .before .before .before .pre .0) (c .before .before .before .loop .j) (omega arith) in
+    let l = c .before .before .before in
+    let s = l .before .before .before in
+    let batch = s .args .batch .now in
+    let n = bodies-count batch in
+    let k = count-is batch (l .before .u32-at .result) (l .before .u32-at .ensures) in
+    let q = held-bounds batch (s .pre .0) in
+    let a = body-at batch (s .pre .0) (l .loop .j) (omega arith) in
     omega arith
 
 loop-less : tie.Need-loop-less Inv-loop μ-loop
@@ -97,19 +118,25 @@ loop-less c = search needs
 
 loop-again : tie.Need-loop-again Inv-loop μ-loop
 loop-again c =
-    let n = bodies-count (c .before .before .before .before .before .before .args .batch .now) in
-    let k = count-is (c .before .before .before .before .before .before .args .batch .now) (c .before .before .before .before .u32-at .result) (c .before .before .before .before .u32-at .ensures) in
-    let q = held-bounds (c .before .before .before .before .before .before .args .batch .now) (c .before .before .before .before .before .before .pre .0) in
-    let a = body-at (c .before .before .before .before .before .before .args .batch .now) (c .before .before .before .before .before .before .pre .0) (c .before .before .before .loop .j) (omega arith) in
+    let l′ = c .before .before .before in
+    let s = l′ .before .before .before in
+    let batch = s .args .batch .now in
+    let n = bodies-count batch in
+    let k = count-is batch (l′ .before .u32-at .result) (l′ .before .u32-at .ensures) in
+    let q = held-bounds batch (s .pre .0) in
+    let a = body-at batch (s .pre .0) (l′ .loop .j) (omega arith) in
     let l = round64-lt (c .before .u32-at2 .result) in
     let p = a .payload-length ∙ sym (c .before .u32-at2 .ensures) in
-    end-next _ _ _ _ noBody (c .before .before .before .loop .inv) (omega arith) (omega (arith, p)) _ (c .round-up .ensures ∙ ap round64 (sym p)) (omega (arith, p, c .round-up .ensures))
+    end-next _ _ _ _ noBody (l′ .loop .inv) (omega arith) (omega (arith, p)) _ (c .round-up .ensures
+    ∙ ap round64 (sym p)) (omega (arith, p, c .round-up .ensures))
 
 returns : tie.Need-returns Inv-loop μ-loop
 returns c =
-    let n = bodies-count (c .before .before .before .before .args .batch .now) in
-    let k = count-is (c .before .before .before .before .args .batch .now) (c .before .before .u32-at .result) (c .before .before .u32-at .ensures) in
-    let q = held-bounds (c .before .before .before .before .args .batch .now) (c .before .before .before .before .pre .0) in
+    let ua = c .before .before in
+    let batch = ua .before .before .args .batch .now in
+    let n = bodies-count batch in
+    let k = count-is batch (ua .u32-at .result) (ua .u32-at .ensures) in
+    let q = held-bounds batch (ua .before .before .pre .0) in
     end-last _ _ _ _ (c .before .loop .inv) (omega arith)
 
 pub bodies-end-spec : {M : Type 1} → statement M

@@ -80,8 +80,13 @@ line-held-requires c κs = search needs
 
 returns-6 : tie.Need-returns-6 Inv-loop μ-loop
 returns-6 c =
-    let whole = batch-lines (c .before .before .before .before .before .before .before .before .before .before .before .before .before .before .args .batch .now) (c .before .before .before .before .before .before .before .before .before .before .u32-at .result) (c .before .before .before .before .before .before .before .before .before .before .u32-at .ensures) (omega arith) (omega arith) (omega arith) (sym (c .before .before .before .before .before .before .before .is-zero .ensures) ∙ not-false _ (c .before .before .before .before .before .before .if4 .left)) (omega arith) in
-    lines-stop _ _ _ _ (c .before .before .before .before .loop .inv) (omega arith) (sym (c .before .line-held .ensures) ∙ not-true _ (c .if6 .taken)) ∙ whole
+    let l = c .before .before .before .before in
+    let e4 = l .before .before in
+    let ua = e4 .before .before .before .before in
+    let whole = batch-lines (ua .before .before .before .before .args .batch .now) (ua .u32-at .result)
+    (ua .u32-at .ensures) (omega arith) (omega arith) (omega arith) (sym (e4 .before .is-zero .ensures)
+    ∙ not-false _ (e4 .if4 .left)) (omega arith) in
+    lines-stop _ _ _ _ (l .loop .inv) (omega arith) (sym (c .before .line-held .ensures) ∙ not-true _ (c .if6 .taken)) ∙ whole
 
 add-u32-at : tie.Need-add-u32-at Inv-loop μ-loop
 add-u32-at c = search needs
@@ -104,11 +109,17 @@ loop-less : tie.Need-loop-less Inv-loop μ-loop
 loop-less c = search needs
 
 loop-again : tie.Need-loop-again Inv-loop μ-loop
-loop-again c = lines-next _ _ _ _ (c .before .before .before .before .before .loop .inv) (omega arith) _ (c .u32-at2 .ensures) (omega arith) (sym (c .before .before .line-held .ensures) ∙ not-false _ (c .before .if6 .left))
+loop-again c = lines-next _ _ _ _ (c .before .before .before .before .before .loop .inv) (omega arith) _
+    (c .u32-at2 .ensures) (omega arith) (sym (c .before .before .line-held .ensures)
+    ∙ not-false _ (c .before .if6 .left))
 
 returns-7 : tie.Need-returns-7 Inv-loop μ-loop
 returns-7 c =
-    let whole = batch-lines (c .before .before .before .before .before .before .before .before .before .before .before .args .batch .now) (c .before .before .before .before .before .before .before .u32-at .result) (c .before .before .before .before .before .before .before .u32-at .ensures) (omega arith) (omega arith) (omega arith) (sym (c .before .before .before .before .is-zero .ensures) ∙ not-false _ (c .before .before .before .if4 .left)) (omega arith) in
+    let e4 = c .before .before .before in
+    let ua = e4 .before .before .before .before in
+    let whole = batch-lines (ua .before .before .before .before .args .batch .now) (ua .u32-at .result)
+    (ua .u32-at .ensures) (omega arith) (omega arith) (omega arith) (sym (e4 .before .is-zero .ensures)
+    ∙ not-false _ (e4 .if4 .left)) (omega arith) in
     lines-last _ _ _ _ (c .before .loop .inv) (omega arith) ∙ whole
 
 pub check-spec : {M : Type 1} → statement M

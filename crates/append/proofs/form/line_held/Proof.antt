@@ -36,7 +36,8 @@ flags-held-requires : tie.Need-flags-held-requires
 flags-held-requires c κs = search needs
 
 returns-4 : tie.Need-returns-4
-returns-4 c = line-flags _ _ (ap flagsHeld (sym (c .before .before .u16-at .ensures)) ∙ sym (c .before .flags-held .ensures) ∙ not-true _ (c .if4 .taken))
+returns-4 c = line-flags _ _ (ap flagsHeld (sym (c .before .before .u16-at .ensures))
+    ∙ sym (c .before .flags-held .ensures) ∙ not-true _ (c .if4 .taken))
 
 u32-at-requires : tie.Need-u32-at-requires
 u32-at-requires c κs = search needs
@@ -61,12 +62,16 @@ is-zero-requires c κs = search needs
 
 returns-6 : tie.Need-returns-6
 returns-6 c =
+    let e5 = c .before .before in
+    let e4 = e5 .before .before in
+    let ua = e4 .before .before in
+    let e2 = ua .before .before .before in
     line-holds _ _ _
-    (sym (c .before .before .before .before .before .before .before .before .before .before .before .before .kind-held .ensures) ∙ not-false _ (c .before .before .before .before .before .before .before .before .before .before .before .if1 .left))
-    (c .before .before .before .before .before .before .before .before .before .if2 .left)
-    (c .before .before .before .before .before .before .before .if3 .left)
-    (ap flagsHeld (sym (c .before .before .before .before .before .before .u16-at .ensures)) ∙ sym (c .before .before .before .before .before .flags-held .ensures) ∙ not-false _ (c .before .before .before .before .if4 .left))
-    (sym (c .before .before .before .u32-at .ensures) ∙ c .before .before .if5 .left)
+    (sym (e2 .before .before .before .kind-held .ensures) ∙ not-false _ (e2 .before .before .if1 .left))
+    (e2 .if2 .left)
+    (ua .before .if3 .left)
+    (ap flagsHeld (sym (ua .u16-at .ensures)) ∙ sym (e4 .before .flags-held .ensures) ∙ not-false _ (e4 .if4 .left))
+    (sym (e5 .before .u32-at .ensures) ∙ e5 .if5 .left)
     (c .is-zero .ensures)
 
 pub line-held-spec : {M : Type 1} → statement M
