@@ -12,9 +12,14 @@ put-requires c κs = simp length-set (omega arith)
 
 returns : tie.Need-returns
 returns c =
-    header-laid _ _ _ _ _
-    (c .before .before .before .before .before .before .before .before .before .before .before .before .before .before .before .before .before .before .before .before .args .t6) _ _ _ _ _ _ (omega arith)
-    (c .before .before .before .before .before .before .before .before .before .before .before .before .before .before .before .before .before .copy .ensures) (c .before .before .before .before .before .before .before .before .before .before .before .before .before .before .put .ensures) (c .before .before .before .before .before .before .before .before .before .before .before .put2 .ensures) (c .before .before .before .before .before .before .before .before .put3 .ensures) (c .before .before .before .before .before .put4 .ensures) (c .before .copy2 .ensures)
+    let p4 = c .before .before .before .before .before in
+    let p3 = p4 .before .before .before in
+    let p2 = p3 .before .before .before in
+    let p = p2 .before .before .before in
+    let cy = p .before .before .before in
+    let s = cy .before .before .before in
+    header-laid _ _ _ _ _ (s .args .t6) _ _ _ _ _ _ (omega (arith, s)) (cy .copy .ensures) (p .put .ensures)
+    (p2 .put2 .ensures) (p3 .put3 .ensures) (p4 .put4 .ensures) (c .before .copy2 .ensures)
 
 pub header-of-spec : {M : Type 1} → statement M
 header-of-spec =
