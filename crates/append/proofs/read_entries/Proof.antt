@@ -66,12 +66,6 @@ loop-again c =
     let s = l .before .before .before .before .before in
     read-next _ _ _ _ _ _ _ (l .loop .inv) (omega arith) (s .pre .0 .0) (s .pre .0 .1) _ (c .before .u64-at .ensures)
 
-same-length : tie.Need-same-length Inv-loop μ-loop
-same-length c = search needs
-
-same-length-2 : tie.Need-same-length-2 Inv-loop μ-loop
-same-length-2 c = search needs
-
 returns : tie.Need-returns Inv-loop μ-loop
 returns c = read-last _ _ _ _ _ _ _ (c .before .loop .inv) (omega arith)
 
@@ -79,21 +73,6 @@ pub read-entries-spec : {M : Type 1} → statement M
 read-entries-spec =
     tie.close
     (tie.spec
-    Inv-loop
-    μ-loop
-    loop-holds
-    mul-offset
-    shared-slice-read-offset
-    add-u64-at
-    u64-at-requires
-    mul-entry-ids
-    slice-write-entry-ids
-    add-kinds
-    shared-slice-read-kinds
-    slice-write-kinds
-    add-i
-    loop-less
-    loop-again
-    same-length
-    same-length-2
-    returns)
+    Inv-loop μ-loop loop-holds mul-offset shared-slice-read-offset add-u64-at u64-at-requires mul-entry-ids
+    slice-write-entry-ids add-kinds shared-slice-read-kinds slice-write-kinds add-i loop-less loop-again
+    (λ c. search needs) (λ c. search needs) returns)

@@ -63,12 +63,6 @@ u64-at-requires c κs = omega (arith, room (c .before .before .before))
 add-end : tie.Need-add-end
 add-end c = omega (arith, part c)
 
-sub-read-states : tie.Need-sub-read-states
-sub-read-states c = search needs
-
-part-read-states-start : tie.Need-part-read-states-start
-part-read-states-start c = search needs
-
 part-read-states-end : tie.Need-part-read-states-end
 part-read-states-end c = omega (arith, part (c .before))
 
@@ -86,12 +80,6 @@ slice-aggregate-read-entries c =
     let k = c .before .before .before .before .before .before .before .before .before .before in
     let s = k .before in
     sym (length-take-le (s .args .count) (s .args .offsets .now) (omega (arith, room k .1, s .pre .0 .0)))
-
-slice-aggregate-read-entries-2 : tie.Need-slice-aggregate-read-entries-2
-slice-aggregate-read-entries-2 c = search needs
-
-slice-aggregate-read-entries-3 : tie.Need-slice-aggregate-read-entries-3
-slice-aggregate-read-entries-3 c = search needs
 
 read-entries-requires : tie.Need-read-entries-requires
 read-entries-requires c κs =
@@ -158,9 +146,6 @@ mark-requires c κs =
     _ (re .read-entries .last .1 .1 .0) _ (re .read-entries .last .1 .1 .1 .0) _ (rs .read-states .last .0) _
     (re .read-entries .ensures .0) (re .read-entries .ensures .1) (rs .read-states .ensures) (part-is (v rs))
 
-same-length : tie.Need-same-length
-same-length c = search needs
-
 returns : tie.Need-returns
 returns c =
     let m = c .before .before in
@@ -187,24 +172,8 @@ pub retire-states-spec : {M : Type 1} → statement M
 retire-states-spec =
     tie.close
     (tie.spec
-    add-body
-    add-u64-at
-    u64-at-requires
-    add-end
-    sub-read-states
-    part-read-states-start
-    part-read-states-end
-    read-states-requires
-    slice-aggregate-read-entries
-    slice-aggregate-read-entries-2
-    slice-aggregate-read-entries-3
-    read-entries-requires
-    array-share-prefix-entry-ids
-    slice-aggregate-mark
-    array-share-prefix-kinds
-    slice-aggregate-mark-2
-    slice-relend-prefix-mark
-    slice-aggregate-mark-3
-    mark-requires
-    same-length
+    add-body add-u64-at u64-at-requires add-end (λ c. search needs) (λ c. search needs) part-read-states-end
+    read-states-requires slice-aggregate-read-entries (λ c. search needs) (λ c. search needs)
+    read-entries-requires array-share-prefix-entry-ids slice-aggregate-mark array-share-prefix-kinds
+    slice-aggregate-mark-2 slice-relend-prefix-mark slice-aggregate-mark-3 mark-requires (λ c. search needs)
     returns)

@@ -55,9 +55,6 @@ u32-at-requires c κs =
     let s = c .before .before .before in
     omega (arith, held-bounds (s .args .batch .now) (s .pre .0 .0))
 
-cast-m : tie.Need-cast-m Inv-loop μ-loop
-cast-m c = search needs
-
 loop-holds : tie.Need-loop-holds Inv-loop μ-loop
 loop-holds c = put-first _ _ _ _ _ _ _
 
@@ -82,17 +79,11 @@ add-u32-at c = omega (arith, line-room (c .before .before))
 u32-at-requires-2 : tie.Need-u32-at-requires-2 Inv-loop μ-loop
 u32-at-requires-2 c κs = omega (arith, line-room (c .before .before))
 
-cast-from : tie.Need-cast-from Inv-loop μ-loop
-cast-from c = search needs
-
 add-u32-at-2 : tie.Need-add-u32-at-2 Inv-loop μ-loop
 add-u32-at-2 c = omega (arith, line-room (c .before .before .before))
 
 u32-at-requires-3 : tie.Need-u32-at-requires-3 Inv-loop μ-loop
 u32-at-requires-3 c κs = omega (arith, line-room (c .before .before .before))
-
-cast-to : tie.Need-cast-to Inv-loop μ-loop
-cast-to c = search needs
 
 add-to : tie.Need-add-to Inv-loop μ-loop
 add-to c = omega (arith, inside c)
@@ -167,12 +158,6 @@ add-at c =
     _ _ (s b .args .first-id + j) (s b .args .timestamp) in
     omega (arith, z)
 
-add-j : tie.Need-add-j Inv-loop μ-loop
-add-j c = search needs
-
-loop-less : tie.Need-loop-less Inv-loop μ-loop
-loop-less c = search needs
-
 loop-again : tie.Need-loop-again Inv-loop μ-loop
 loop-again c =
     let ps = c .before .before in
@@ -196,12 +181,6 @@ loop-again c =
     (ps .put-segment .ensures .0)
     (back _ _ _ _ (ps .put-segment .ensures .1) (omega (arith, z, ps .put-segment .ensures .0))) (omega (arith, s .pre .1 .1))
 
-same-length : tie.Need-same-length Inv-loop μ-loop
-same-length c = search needs
-
-same-length-2 : tie.Need-same-length-2 Inv-loop μ-loop
-same-length-2 c = search needs
-
 returns : tie.Need-returns Inv-loop μ-loop
 returns c =
     let u = c .before .before in
@@ -214,38 +193,9 @@ pub put-bodies-spec : {M : Type 1} → statement M
 put-bodies-spec =
     tie.close
     (tie.spec
-    Inv-loop
-    μ-loop
-    u32-at-requires
-    cast-m
-    loop-holds
-    mul-line
-    add-line
-    shared-slice-read-kind
-    add-u16-at
-    u16-at-requires
-    add-u32-at
-    u32-at-requires-2
-    cast-from
-    add-u32-at-2
-    u32-at-requires-3
-    cast-to
-    add-to
-    add-offsets
-    mul-offsets
-    slice-write-offsets
-    sub-put-segment
-    part-put-segment-start
-    part-put-segment-end
-    add-put-segment
-    sub-put-segment-2
-    part-put-segment-start-2
-    part-put-segment-end-2
-    put-segment-requires
-    add-at
-    add-j
-    loop-less
-    loop-again
-    same-length
-    same-length-2
-    returns)
+    Inv-loop μ-loop u32-at-requires (λ c. search needs) loop-holds mul-line add-line shared-slice-read-kind
+    add-u16-at u16-at-requires add-u32-at u32-at-requires-2 (λ c. search needs) add-u32-at-2 u32-at-requires-3
+    (λ c. search needs) add-to add-offsets mul-offsets slice-write-offsets sub-put-segment
+    part-put-segment-start part-put-segment-end add-put-segment sub-put-segment-2 part-put-segment-start-2
+    part-put-segment-end-2 put-segment-requires add-at (λ c. search needs) (λ c. search needs) loop-again
+    (λ c. search needs) (λ c. search needs) returns)

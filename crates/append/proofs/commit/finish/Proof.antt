@@ -107,9 +107,6 @@ u32-at-requires c κs =
     let q = held-bounds (s .args .batch .now) (s .pre .0 .0) in
     omega arith
 
-cast-m : tie.Need-cast-m
-cast-m c = search needs
-
 add-count : tie.Need-add-count
 add-count c =
     let q = held-bounds (s c .args .batch .now) (s c .pre .0 .0) in
@@ -194,9 +191,6 @@ put-bodies-requires c κs =
       (omega (arith, n .next-id .ensures, id-fits (n .before), m-is), omega (arith, m-is, s u .pre .0 .1 .0)),
     )
 
-slice-reshare-prefix-put-manifest : tie.Need-slice-reshare-prefix-put-manifest
-slice-reshare-prefix-put-manifest c = search needs
-
 slice-aggregate-put-manifest : tie.Need-slice-aggregate-put-manifest
 slice-aggregate-put-manifest c = sym (offsets-count (c .before .before .before .before .before .before))
 
@@ -214,19 +208,14 @@ put-manifest-requires c κs =
       (omega (arith, os-count, few p), omega (arith, os-count, states-count p)),
       (
         (omega (arith, pl, pr, p .put-bodies .kept .0), omega arith),
-        written-inside (s .args .buf .now) (s .args .offsets .now) (s .args .batch .now) (s .args .start) (s .args .kept) (s .args .first) (s .args .last)
+        written-inside (s .args .buf .now) (s .args .offsets .now) (s .args .batch .now) (s .args .start)
+            (s .args .kept) (s .args .first) (s .args .last)
             (s .pre .1) (s .pre .0 .0) (s .args .timestamp) (s .fits .timestamp .fits) (n p .next-id .result) (m (v p)) (n p .next-id .ensures)
             (count-is (s .args .batch .now) (m (v p)) (v p .u32-at .ensures)) (ids-fit p) (b p .bodies-end .result) (b p .bodies-end .ensures)
             (omega arith) (omega arith) (omega (arith, few p, s .pre .0 .1 .0))
             (p .put-bodies .last .0) (p .put-bodies .last .1 .1 .1 .1 .1 .0) (p .put-bodies .ensures .0) (p .put-bodies .ensures .1),
       ),
     )
-
-same-length : tie.Need-same-length
-same-length c = search needs
-
-same-length-2 : tie.Need-same-length-2
-same-length-2 c = search needs
 
 returns-5 : tie.Need-returns-5
 returns-5 c =
@@ -247,29 +236,7 @@ pub finish-spec : {M : Type 1} → statement M
 finish-spec =
     tie.close
     (tie.spec
-    u32-at-requires
-    cast-m
-    add-count
-    returns
-    ids-over-requires
-    returns-2
-    next-id-requires
-    bodies-end-requires
-    add-end
-    mul-round-up
-    add-round-up
-    round-up-requires
-    add-round-up-2
-    round-up-requires-2
-    add-end-2
-    returns-3
-    returns-4
-    add-id
-    put-bodies-requires
-    slice-reshare-prefix-put-manifest
-    slice-aggregate-put-manifest
-    slice-aggregate-put-manifest-2
-    put-manifest-requires
-    same-length
-    same-length-2
-    returns-5)
+    u32-at-requires (λ c. search needs) add-count returns ids-over-requires returns-2 next-id-requires
+    bodies-end-requires add-end mul-round-up add-round-up round-up-requires add-round-up-2 round-up-requires-2
+    add-end-2 returns-3 returns-4 add-id put-bodies-requires (λ c. search needs) slice-aggregate-put-manifest
+    slice-aggregate-put-manifest-2 put-manifest-requires (λ c. search needs) (λ c. search needs) returns-5)

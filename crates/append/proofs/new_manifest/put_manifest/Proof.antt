@@ -13,12 +13,6 @@ use borrow.Author.Needs.{needs}
 use Rattle.append.proofs.new_manifest.put_manifest.Statement.{statement}
 use Rattle.append.proofs.new_manifest.put_manifest.Tie as tie
 
-slice-aggregate-put-payload : tie.Need-slice-aggregate-put-payload
-slice-aggregate-put-payload c = search needs
-
-slice-reshare-prefix-put-payload : tie.Need-slice-reshare-prefix-put-payload
-slice-reshare-prefix-put-payload c = search needs
-
 slice-aggregate-put-payload-2 : tie.Need-slice-aggregate-put-payload-2
 slice-aggregate-put-payload-2 c =
     let s = c .before .before .before .before .before in
@@ -29,15 +23,6 @@ put-payload-requires c κs =
     let s = c .before .before .before .before .before in
     let m = payload-most (length (s .args .offsets .now)) (s .pre .0 .0) in
     ((omega (arith, m), s .pre .0 .1), (s .pre .1 .1, omega (arith, s .pre .1 .0 .1, m)))
-
-sub-put-segment : tie.Need-sub-put-segment
-sub-put-segment c = search needs
-
-part-put-segment-start : tie.Need-part-put-segment-start
-part-put-segment-start c = search needs
-
-part-put-segment-end : tie.Need-part-put-segment-end
-part-put-segment-end c = search needs
 
 array-share-prefix-payload : tie.Need-array-share-prefix-payload
 array-share-prefix-payload c =
@@ -67,9 +52,6 @@ put-segment-requires c κs =
     (payloadLength (length (s .args .offsets .now))) = ap round64 (ap length f ∙ lp) in
     omega (arith, r, s .pre .1 .0 .0, length-take (length buf - at) (drop at buf), length-drop at buf)
 
-same-length : tie.Need-same-length
-same-length c = search needs
-
 returns : tie.Need-returns
 returns c =
     let pp = c .before .before .before .before .before .before in
@@ -87,15 +69,6 @@ pub put-manifest-spec : {M : Type 1} → statement M
 put-manifest-spec =
     tie.close
     (tie.spec
-    slice-aggregate-put-payload
-    slice-reshare-prefix-put-payload
-    slice-aggregate-put-payload-2
-    put-payload-requires
-    sub-put-segment
-    part-put-segment-start
-    part-put-segment-end
-    array-share-prefix-payload
-    slice-aggregate-put-segment
-    put-segment-requires
-    same-length
-    returns)
+    (λ c. search needs) (λ c. search needs) slice-aggregate-put-payload-2 put-payload-requires
+    (λ c. search needs) (λ c. search needs) (λ c. search needs) array-share-prefix-payload
+    slice-aggregate-put-segment put-segment-requires (λ c. search needs) returns)

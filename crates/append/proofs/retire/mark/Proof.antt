@@ -22,18 +22,6 @@ abbrev μ-loop : tie.MeasureT-loop
 loop-holds : tie.Need-loop-holds Inv-loop μ-loop
 loop-holds c = mark-first _ _ _ _ (c .before .before .before .before .pre .0 .1)
 
-mul-index-of : tie.Need-mul-index-of Inv-loop μ-loop
-mul-index-of c = search needs
-
-shared-slice-read-index-of : tie.Need-shared-slice-read-index-of Inv-loop μ-loop
-shared-slice-read-index-of c = search needs
-
-index-of-requires : tie.Need-index-of-requires Inv-loop μ-loop
-index-of-requires c κs = search needs
-
-enum-told : tie.Need-enum-told Inv-loop μ-loop
-enum-told c = search needs
-
 same-length : tie.Need-same-length Inv-loop μ-loop
 same-length c = c .before .before .before .before .before .loop .inv .long
 
@@ -44,9 +32,6 @@ returns c = (
   λ q.
       absurd (false≢true q),
 )
-
-enum-known-place : tie.Need-enum-known-place Inv-loop μ-loop
-enum-known-place c = search needs
 
 shared-slice-read-if1 : tie.Need-shared-slice-read-if1 Inv-loop μ-loop
 shared-slice-read-if1 c =
@@ -95,12 +80,6 @@ slice-write-states c =
     let e = rw take-length at (was-place _ _ (sym (p .before .before .index-of .ensures) ∙ p .place .given .1)) in
     omega (arith, index-within _ _ _ e, l .before .before .before .before .before .pre .0, l .loop .inv .long)
 
-add-j : tie.Need-add-j Inv-loop μ-loop
-add-j c = search needs
-
-loop-less : tie.Need-loop-less Inv-loop μ-loop
-loop-less c = search needs
-
 loop-again : tie.Need-loop-again Inv-loop μ-loop
 loop-again c =
     let p = c .before .before .before .before .before in
@@ -119,25 +98,7 @@ pub mark-spec : {M : Type 1} → statement M
 mark-spec =
     tie.close
     (tie.spec
-    Inv-loop
-    μ-loop
-    loop-holds
-    mul-index-of
-    shared-slice-read-index-of
-    index-of-requires
-    enum-told
-    same-length
-    returns
-    enum-known-place
-    shared-slice-read-if1
-    same-length-2
-    returns-2
-    slice-read-if2
-    same-length-3
-    returns-3
-    slice-write-states
-    add-j
-    loop-less
-    loop-again
-    same-length-4
-    returns-4)
+    Inv-loop μ-loop loop-holds (λ c. search needs) (λ c. search needs) (λ c κs. search needs)
+    (λ c. search needs) same-length returns (λ c. search needs) shared-slice-read-if1 same-length-2 returns-2
+    slice-read-if2 same-length-3 returns-3 slice-write-states (λ c. search needs) (λ c. search needs) loop-again
+    same-length-4 returns-4)

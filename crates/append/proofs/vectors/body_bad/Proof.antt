@@ -43,9 +43,6 @@ u32-at-requires c κs =
     let b = body-at (s .args .batch .now) (s .pre .0) (s .args .j) (s .pre .1) in
     omega (arith, b .line-room)
 
-cast-from : tie.Need-cast-from
-cast-from c = search needs
-
 add-u32-at-2 : tie.Need-add-u32-at-2
 add-u32-at-2 c =
     let s = c .before .before .before .before in
@@ -58,26 +55,11 @@ u32-at-requires-2 c κs =
     let b = body-at (s .args .batch .now) (s .pre .0) (s .args .j) (s .pre .1) in
     omega (arith, b .line-room)
 
-cast-end : tie.Need-cast-end
-cast-end c = search needs
-
-add-end : tie.Need-add-end
-add-end c = search needs
-
-sub-check : tie.Need-sub-check
-sub-check c = search needs
-
-part-check-start : tie.Need-part-check-start
-part-check-start c = search needs
-
 part-check-end : tie.Need-part-check-end
 part-check-end c =
     let s = c .before .before .before .before .before in
     let b = body-at (s .args .batch .now) (s .pre .0) (s .args .j) (s .pre .1) in
     omega (arith, b .room, c .before .u32-at .ensures, c .u32-at2 .ensures)
-
-check-requires : tie.Need-check-requires
-check-requires c κs = search needs
 
 returns-2 : tie.Need-returns-2
 returns-2 c =
@@ -90,19 +72,6 @@ pub body-bad-spec : {M : Type 1} → statement M
 body-bad-spec =
     tie.close
     (tie.spec
-    mul-line
-    add-line
-    shared-slice-read-if1
-    returns
-    add-u32-at
-    u32-at-requires
-    cast-from
-    add-u32-at-2
-    u32-at-requires-2
-    cast-end
-    add-end
-    sub-check
-    part-check-start
-    part-check-end
-    check-requires
-    returns-2)
+    mul-line add-line shared-slice-read-if1 returns add-u32-at u32-at-requires (λ c. search needs) add-u32-at-2
+    u32-at-requires-2 (λ c. search needs) (λ c. search needs) (λ c. search needs) (λ c. search needs)
+    part-check-end (λ c κs. search needs) returns-2)

@@ -21,9 +21,6 @@ u32-at-requires c κs =
     let b = held-bounds (c .before .args .batch .now) (c .before .pre) in
     omega (arith, b .1 .1)
 
-cast-count : tie.Need-cast-count Inv-loop μ-loop
-cast-count c = search needs
-
 loop-holds : tie.Need-loop-holds Inv-loop μ-loop
 loop-holds c = vectors-first _
 
@@ -40,12 +37,6 @@ returns c =
     let n = count-is (s .args .batch .now) (l .before .u32-at .result) (l .before .u32-at .ensures) in
     let k = bodies-count (s .args .batch .now) in
     vectors-stop _ _ (l .loop .inv) (omega arith) _ (c .before .body-bad .ensures) (c .if1 .taken)
-
-add-j : tie.Need-add-j Inv-loop μ-loop
-add-j c = search needs
-
-loop-less : tie.Need-loop-less Inv-loop μ-loop
-loop-less c = search needs
 
 loop-again : tie.Need-loop-again Inv-loop μ-loop
 loop-again c =
@@ -66,14 +57,5 @@ pub vectors-bad-spec : {M : Type 1} → statement M
 vectors-bad-spec =
     tie.close
     (tie.spec
-    Inv-loop
-    μ-loop
-    u32-at-requires
-    cast-count
-    loop-holds
-    body-bad-requires
-    returns
-    add-j
-    loop-less
-    loop-again
-    returns-2)
+    Inv-loop μ-loop u32-at-requires (λ c. search needs) loop-holds body-bad-requires returns (λ c. search needs)
+    (λ c. search needs) loop-again returns-2)
