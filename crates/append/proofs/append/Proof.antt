@@ -1,5 +1,8 @@
 -- `append::append` meets its contract: its tests in order, then the rest of the append from where the file's manifest ends.
 -- Assumes nothing.
+use mathlib.Core.Option.{none}
+use Rattle.octets.specs.le.Le.{Bytes}
+use Rattle.opening.specs.Indexed.{ManifestAt}
 use Prim.Native.Nat.{ℕ}
 use mathlib.Core.Path.{_≡_, refl, sym, ap, _∙_}
 use native.Mathlib.Omega.{arith}
@@ -16,190 +19,203 @@ use Rattle.append.proofs.append.Statement.{statement}
 use Rattle.append.proofs.append.Tie as tie
 
 returns : tie.Need-returns
-returns c = way-room (c .before .before .before .before .args .buf .now) (c .before .before .before .before .args .n) (c .before .before .before .before .args .batch .now) (c .before .before .before .before .args .ids .now) (c .before .before .before .before .args .timestamp) (omega (arith, c .if1 .taken))
+returns c =
+    let s = c .before .before .before .before in
+    way-room (s .args .buf .now) (s .args .n) (s .args .batch .now) (s .args .ids .now) (s .args .timestamp) (omega (arith, c .if1 .taken))
 
 returns-2 : tie.Need-returns-2
-returns-2 c = way-limit (c .before .before .before .before .before .args .buf .now) (c .before .before .before .before .before .args .n) (c .before .before .before .before .before .args .batch .now) (c .before .before .before .before .before .args .ids .now) (c .before .before .before .before .before .args .timestamp) (omega (arith, c .before .if1 .left)) (omega (arith, c .if2 .taken))
-
-slice-reshare-prefix-open-with : tie.Need-slice-reshare-prefix-open-with
-slice-reshare-prefix-open-with c = search needs
+returns-2 c =
+    let s = c .before .before .before .before .before in
+    way-limit (s .args .buf .now) (s .args .n) (s .args .batch .now) (s .args .ids .now) (s .args .timestamp)
+    (omega (arith, c .before .if1 .left)) (omega (arith, c .if2 .taken))
 
 slice-aggregate-open-with : tie.Need-slice-aggregate-open-with
-slice-aggregate-open-with c = sym (length-take-le (c .before .before .before .before .before .before .args .n) (c .before .before .before .before .before .before .args .buf .now) (omega (arith, c .before .before .if1 .left)))
+slice-aggregate-open-with c =
+    let s = c .before .before .before .before .before .before in
+    sym (length-take-le (s .args .n) (s .args .buf .now) (omega (arith, c .before .before .if1 .left)))
 
-slice-aggregate-open-with-2 : tie.Need-slice-aggregate-open-with-2
-slice-aggregate-open-with-2 c = search needs
+-- Where the file is opened.
+module _ (w : tie.After-open-with) where
+  abbrev e2 : tie.Else2
+  e2 = w .before .before .before
 
-open-with-requires : tie.Need-open-with-requires
-open-with-requires c κs = search needs
+abbrev s : tie.Else2 → tie.Start
+s e = e .before .before .before .before .before
 
-enum-known-found : tie.Need-enum-known-found
-enum-known-found c = search needs
+-- Where it has no manifest.
+none-found : (t : tie.After-enum-told) → opened
+    (take (s (e2 (t .before .before .before)) .args .n) (s (e2 (t .before .before .before)) .args .buf .now)) ≡ none
+none-found t = opened-none _ _ (sym (t .before .before .before .open-with .ensures .0) ∙ t .enum-told .given .1) .1
 
-enum-told : tie.Need-enum-told
-enum-told c = search needs
+-- Where it has one.
+module _ (f : tie.After-found2) where
+  abbrev ow : tie.After-open-with
+  ow = f .before .before .before
 
-same-length : tie.Need-same-length
-same-length c = search needs
+  abbrev call : tie.Start
+  call = s (e2 ow)
+
+  abbrev found : ManifestAt (take (call .args .n) (call .args .buf .now)) (f .found2 .given .0 .0) (f .found2 .given .0 .1 .1 .1 .0)
+  found = opened-at _ _ _ _ _ _ (sym (ow .open-with .ensures .0) ∙ f .found2 .given .1)
+
+  begins : opened (take (call .args .n) (call .args .buf .now)) ≡ none → call .args .n ≡ 0
+  begins z =
+      let q = sym (found .opens) ∙ z in
+      absurd (let w : _≡_ {A = ℕ} 0 1 = cc in omega arith)
+
+  bytes : Bytes (take (call .args .n) (call .args .buf .now))
+  bytes = bytes-take (call .args .n) (call .args .buf .now) (λ k. omega (arith, e2 ow .before .before .before .before .slice-known .given k))
 
 returns-3 : tie.Need-returns-3
 returns-3 c =
-    let nf = opened-none _ _ (sym (c .before .before .before .before .open-with .ensures .0) ∙ c .before .enum-told .given .1) .1 in
-    way-none (c .before .before .before .before .before .before .before .before .before .before .before .before .args .buf .now) (c .before .before .before .before .before .before .before .before .before .before .before .before .args .n) (c .before .before .before .before .before .before .before .before .before .before .before .before .args .batch .now) (c .before .before .before .before .before .before .before .before .before .before .before .before .args .ids .now) (c .before .before .before .before .before .before .before .before .before .before .before .before .args .timestamp) (omega (arith, c .before .before .before .before .before .before .before .before .if1 .left)) (omega (arith, c .before .before .before .before .before .before .before .if2 .left)) nf (omega (arith, c .if3 .taken))
-
-batch-number-requires : tie.Need-batch-number-requires
-batch-number-requires c κs = search needs
-
-same-length-2 : tie.Need-same-length-2
-same-length-2 c = search needs
+    let n = none-found (c .before) in
+    let e2 = e2 (c .before .before .before .before) in
+    let s = s e2 in
+    way-none (s .args .buf .now) (s .args .n) (s .args .batch .now) (s .args .ids .now) (s .args .timestamp)
+    (omega (arith, e2 .before .if1 .left)) (omega (arith, e2 .if2 .left)) n (omega (arith, c .if3 .taken))
 
 returns-4 : tie.Need-returns-4
-returns-4 c = way-batch (c .before .before .before .before .before .before .before .before .before .before .before .before .before .before .args .buf .now) (c .before .before .before .before .before .before .before .before .before .before .before .before .before .before .args .n) (c .before .before .before .before .before .before .before .before .before .before .before .before .before .before .args .batch .now) (c .before .before .before .before .before .before .before .before .before .before .before .before .before .before .args .ids .now) (c .before .before .before .before .before .before .before .before .before .before .before .before .before .before .args .timestamp) (omega (arith, c .before .before .before .before .before .before .before .before .before .before .if1 .left)) (omega (arith, c .before .before .before .before .before .before .before .before .before .if2 .left)) (λ z. omega (arith, c .before .before .if3 .left)) _ (c .before .batch-number .ensures) (c .if4 .taken)
-
-same-length-3 : tie.Need-same-length-3
-same-length-3 c = search needs
+returns-4 c =
+    let e2 = c .before .before .before .before .before .before .before .before .before in
+    let s = e2 .before .before .before .before .before in
+    way-batch (s .args .buf .now) (s .args .n) (s .args .batch .now) (s .args .ids .now) (s .args .timestamp)
+    (omega (arith, e2 .before .if1 .left)) (omega (arith, e2 .if2 .left))
+    (λ z. omega (arith, c .before .before .if3 .left)) _ (c .before .batch-number .ensures) (c .if4 .taken)
 
 returns-5 : tie.Need-returns-5
 returns-5 c =
-    let nf = opened-none _ _ (sym (c .before .before .before .before .before .before .before .open-with .ensures .0) ∙ c .before .before .before .before .enum-told .given .1) .1 in
-    way-retire (c .before .before .before .before .before .before .before .before .before .before .before .before .before .before .before .args .buf .now) (c .before .before .before .before .before .before .before .before .before .before .before .before .before .before .before .args .n) (c .before .before .before .before .before .before .before .before .before .before .before .before .before .before .before .args .batch .now) (c .before .before .before .before .before .before .before .before .before .before .before .before .before .before .before .args .ids .now) (c .before .before .before .before .before .before .before .before .before .before .before .before .before .before .before .args .timestamp) (omega (arith, c .before .before .before .before .before .before .before .before .before .before .before .if1 .left)) (omega (arith, c .before .before .before .before .before .before .before .before .before .before .if2 .left)) (λ z. omega (arith, c .before .before .before .if3 .left)) (sym (c .before .before .batch-number .ensures) ∙ c .before .if4 .left) (retire-some _ nf _ (omega (arith, c .if5 .taken)))
-
-slice-aggregate-finish : tie.Need-slice-aggregate-finish
-slice-aggregate-finish c = search needs
-
-slice-aggregate-finish-2 : tie.Need-slice-aggregate-finish-2
-slice-aggregate-finish-2 c = search needs
+    let e3 = c .before .before .before in
+    let e2 = e2 (e3 .before .before .before .before) in
+    let s = s e2 in
+    way-retire (s .args .buf .now) (s .args .n) (s .args .batch .now) (s .args .ids .now) (s .args .timestamp)
+    (omega (arith, e2 .before .if1 .left)) (omega (arith, e2 .if2 .left)) (λ z. omega (arith, e3 .if3 .left))
+    (sym (c .before .before .batch-number .ensures) ∙ c .before .if4 .left) (retire-some _ (none-found (e3 .before)) _ (omega (arith, c .if5 .taken)))
 
 finish-requires : tie.Need-finish-requires
 finish-requires c κs =
-    let nf = opened-none _ _ (sym (c .before .before .before .before .before .before .before .before .before .before .open-with .ensures .0) ∙ c .before .before .before .before .before .before .before .enum-told .given .1) .1 in
-    let z : _≡_ {A = ℕ} 0 (c .before .before .before .before .before .before .before .before .before .before .before .before .before .before .before .before .before .before .args .n) = omega (arith, c .before .before .before .before .before .before .if3 .left) in
-    ((taken-held (c .before .before .before .before .before .before .before .before .before .before .before .before .before .before .before .before .before .before .args .buf .now) (c .before .before .before .before .before .before .before .before .before .before .before .before .before .before .before .before .before .before .args .n) (c .before .before .before .before .before .before .before .before .before .before .before .before .before .before .before .before .before .before .args .batch .now) (c .before .before .before .before .before .before .before .before .before .before .before .before .before .before .before .before .before .before .args .ids .now) (c .before .before .before .before .before .before .before .before .before .before .before .before .before .before .before .before .before .before .args .timestamp) (omega (arith, c .before .before .before .before .before .before .before .before .before .before .before .before .before .before .if1 .left)) (omega (arith, c .before .before .before .before .before .before .before .before .before .before .before .before .before .if2 .left)) (λ z. omega (arith, c .before .before .before .before .before .before .if3 .left)) (sym (c .before .before .before .before .before .batch-number .ensures) ∙ c .before .before .before .before .if4 .left), (c .before .before .before .before .before .before .before .before .before .before .open-with .kept .1 .0, refl)), base-empty _ (ap (λ (k : ℕ). opened (take k (c .before .before .before .before .before .before .before .before .before .before .before .before .before .before .before .before .before .before .args .buf .now))) z ∙ nf) _ refl)
-
-enum-known-found-2 : tie.Need-enum-known-found-2
-enum-known-found-2 c = search needs
-
-batch-number-requires-2 : tie.Need-batch-number-requires-2
-batch-number-requires-2 c κs = search needs
-
-same-length-4 : tie.Need-same-length-4
-same-length-4 c = search needs
+    let e4 = c .before .before .before .before in
+    let e3 = e4 .before .before in
+    let ow = e3 .before .before .before .before in
+    let e2 = e2 ow in
+    let s = s e2 in
+    let z : _≡_ {A = ℕ} 0 (s .args .n) = omega (arith, e3 .if3 .left) in (
+      (
+        taken-held (s .args .buf .now) (s .args .n) (s .args .batch .now) (s .args .ids .now) (s .args .timestamp)
+            (omega (arith, e2 .before .if1 .left)) (omega (arith, e2 .if2 .left)) (λ z. omega (arith, e3 .if3 .left))
+            (sym (e4 .before .batch-number .ensures) ∙ e4 .if4 .left),
+        (ow .open-with .kept .1 .0, refl),
+      ),
+      base-empty _ (ap (λ (k : ℕ). opened (take k (s .args .buf .now))) z ∙ none-found (e3 .before)) _ refl,
+    )
 
 returns-6 : tie.Need-returns-6
 returns-6 c =
-    let m = opened-at _ _ _ _ _ _ (sym (c .before .before .before .before .before .before .open-with .ensures .0) ∙ c .before .before .before .found2 .given .1) in
-    way-batch (c .before .before .before .before .before .before .before .before .before .before .before .before .before .before .args .buf .now) (c .before .before .before .before .before .before .before .before .before .before .before .before .before .before .args .n) (c .before .before .before .before .before .before .before .before .before .before .before .before .before .before .args .batch .now) (c .before .before .before .before .before .before .before .before .before .before .before .before .before .before .args .ids .now) (c .before .before .before .before .before .before .before .before .before .before .before .before .before .before .args .timestamp) (omega (arith, c .before .before .before .before .before .before .before .before .before .before .if1 .left)) (omega (arith, c .before .before .before .before .before .before .before .before .before .if2 .left)) (λ z. let q = sym (m .opens) ∙ z in absurd (let w : _≡_ {A = ℕ} 0 1 = cc in omega arith)) _ (c .before .batch-number2 .ensures) (c .if6 .taken)
-
-slice-reshare-prefix-retire-states : tie.Need-slice-reshare-prefix-retire-states
-slice-reshare-prefix-retire-states c = search needs
+    let f = c .before .before .before in
+    let e2 = e2 (ow f) in
+    let s = s e2 in
+    way-batch (s .args .buf .now) (s .args .n) (s .args .batch .now) (s .args .ids .now) (s .args .timestamp)
+    (omega (arith, e2 .before .if1 .left)) (omega (arith, e2 .if2 .left)) (begins f) _ (c .before .batch-number2 .ensures) (c .if6 .taken)
 
 slice-aggregate-retire-states : tie.Need-slice-aggregate-retire-states
-slice-aggregate-retire-states c = sym (length-take-le (c .before .before .before .before .before .before .before .before .before .before .before .before .before .before .before .args .n) (c .before .before .before .before .before .before .before .before .before .before .before .before .before .before .before .args .buf .now) (omega (arith, c .before .before .before .before .before .before .before .before .before .before .before .if1 .left)))
-
-slice-aggregate-retire-states-2 : tie.Need-slice-aggregate-retire-states-2
-slice-aggregate-retire-states-2 c = search needs
-
-slice-aggregate-retire-states-3 : tie.Need-slice-aggregate-retire-states-3
-slice-aggregate-retire-states-3 c = search needs
+slice-aggregate-retire-states c =
+    let e1 = c .before .before .before .before .before .before .before .before .before .before .before in
+    let s = e1 .before .before .before .before in
+    sym (length-take-le (s .args .n) (s .args .buf .now) (omega (arith, e1 .if1 .left)))
 
 retire-states-requires : tie.Need-retire-states-requires
 retire-states-requires c κs =
-    let m = opened-at _ _ _ _ _ _ (sym (c .before .before .before .before .before .before .before .before .before .open-with .ensures .0) ∙ c .before .before .before .before .before .before .found2 .given .1) in
-    ((omega (arith, c .before .before .before .before .before .before .before .before .before .open-with .kept .1 .0), refl), (c .before .before .before .before .before .before .before .before .before .open-with .ensures .1 (m .within), m))
-
-same-length-5 : tie.Need-same-length-5
-same-length-5 c = search needs
+    let f = c .before .before .before .before .before .before in
+    ((omega (arith, ow f .open-with .kept .1 .0), refl), (ow f .open-with .ensures .1 (found f .within), found f))
 
 returns-7 : tie.Need-returns-7
 returns-7 c =
-    let m = opened-at _ _ _ _ _ _ (sym (c .before .before .before .before .before .before .before .before .before .before .before .before .open-with .ensures .0) ∙ c .before .before .before .before .before .before .before .before .before .found2 .given .1) in
-    way-retire (c .before .before .before .before .before .before .before .before .before .before .before .before .before .before .before .before .before .before .before .before .args .buf .now) (c .before .before .before .before .before .before .before .before .before .before .before .before .before .before .before .before .before .before .before .before .args .n) (c .before .before .before .before .before .before .before .before .before .before .before .before .before .before .before .before .before .before .before .before .args .batch .now) (c .before .before .before .before .before .before .before .before .before .before .before .before .before .before .before .before .before .before .before .before .args .ids .now) (c .before .before .before .before .before .before .before .before .before .before .before .before .before .before .before .before .before .before .before .before .args .timestamp) (omega (arith, c .before .before .before .before .before .before .before .before .before .before .before .before .before .before .before .before .if1 .left)) (omega (arith, c .before .before .before .before .before .before .before .before .before .before .before .before .before .before .before .if2 .left)) (λ z. let q = sym (m .opens) ∙ z in absurd (let w : _≡_ {A = ℕ} 0 1 = cc in omega arith)) (sym (c .before .before .before .before .before .before .before .batch-number2 .ensures) ∙ c .before .before .before .before .before .before .if6 .left) (sym (c .before .before .retire-states .ensures .0) ∙ not-true _ (c .if7 .taken))
+    let e6 = c .before .before .before .before .before .before in
+    let f = e6 .before .before .before in
+    let e2 = e2 (ow f) in
+    let s = s e2 in
+    way-retire (s .args .buf .now) (s .args .n) (s .args .batch .now) (s .args .ids .now) (s .args .timestamp)
+    (omega (arith, e2 .before .if1 .left)) (omega (arith, e2 .if2 .left)) (begins f)
+    (sym (e6 .before .batch-number2 .ensures) ∙ e6 .if6 .left) (sym (c .before .before .retire-states .ensures .0) ∙ not-true _ (c .if7 .taken))
 
 add-finish : tie.Need-add-finish
 add-finish c =
-    let m = opened-at _ _ _ _ _ _ (sym (c .before .before .before .before .before .before .before .before .before .before .before .before .before .open-with .ensures .0) ∙ c .before .before .before .before .before .before .before .before .before .before .found2 .given .1) in
-    let r = manifest-room _ _ _ _ (bytes-take (c .before .before .before .before .before .before .before .before .before .before .before .before .before .before .before .before .before .before .before .before .before .args .n) (c .before .before .before .before .before .before .before .before .before .before .before .before .before .before .before .before .before .before .before .before .before .args .buf .now) (λ k. omega (arith, c .before .before .before .before .before .before .before .before .before .before .before .before .before .before .before .before .before .before .before .before .slice-known .given k))) (c .before .before .before .before .before .before .before .before .before .before .before .before .before .open-with .ensures .1 (m .within)) (omega (arith, c .before .before .before .before .before .before .before .before .before .before .before .before .before .open-with .kept .1 .0)) m in
-    omega (arith, r .1)
-
-slice-aggregate-finish-3 : tie.Need-slice-aggregate-finish-3
-slice-aggregate-finish-3 c = search needs
-
-slice-aggregate-finish-4 : tie.Need-slice-aggregate-finish-4
-slice-aggregate-finish-4 c = search needs
+    let f = c .before .before .before .before .before .before .before .before .before .before in
+    let ow = ow f in
+    omega (
+      arith,
+      manifest-room _ _ _ _ (bytes f) (ow .open-with .ensures .1 (found f .within))
+          (omega (arith, ow .open-with .kept .1 .0)) (found f) .1,
+    )
 
 finish-requires-2 : tie.Need-finish-requires-2
 finish-requires-2 c κs =
-    let m = opened-at _ _ _ _ _ _ (sym (c .before .before .before .before .before .before .before .before .before .before .before .before .before .before .before .open-with .ensures .0) ∙ c .before .before .before .before .before .before .before .before .before .before .before .before .found2 .given .1) in
-    let ends = opened-end _ _ _ _ _ _ (sym (c .before .before .before .before .before .before .before .before .before .before .before .before .before .before .before .open-with .ensures .0) ∙ c .before .before .before .before .before .before .before .before .before .before .before .before .found2 .given .1) in
-    ((taken-held (c .before .before .before .before .before .before .before .before .before .before .before .before .before .before .before .before .before .before .before .before .before .before .before .args .buf .now) (c .before .before .before .before .before .before .before .before .before .before .before .before .before .before .before .before .before .before .before .before .before .before .before .args .n) (c .before .before .before .before .before .before .before .before .before .before .before .before .before .before .before .before .before .before .before .before .before .before .before .args .batch .now) (c .before .before .before .before .before .before .before .before .before .before .before .before .before .before .before .before .before .before .before .before .before .before .before .args .ids .now) (c .before .before .before .before .before .before .before .before .before .before .before .before .before .before .before .before .before .before .before .before .before .before .before .args .timestamp) (omega (arith, c .before .before .before .before .before .before .before .before .before .before .before .before .before .before .before .before .before .before .before .if1 .left)) (omega (arith, c .before .before .before .before .before .before .before .before .before .before .before .before .before .before .before .before .before .before .if2 .left)) (λ z. let q = sym (m .opens) ∙ z in absurd (let w : _≡_ {A = ℕ} 0 1 = cc in omega arith)) (sym (c .before .before .before .before .before .before .before .before .before .before .batch-number2 .ensures) ∙ c .before .before .before .before .before .before .before .before .before .if6 .left), (c .before .before .before .before .before .before .before .before .before .before .before .before .before .before .before .open-with .kept .1 .0, c .before .before .before .before .before .retire-states .kept .1 .1 .1 .1 .1 .0)), base-later _ (c .before .before .before .before .before .before .before .before .before .before .before .before .before .before .before .before .before .before .before .before .before .before .before .args .buf .now) _ (c .before .before .before .before .before .before .before .before .before .before .before .before .before .before .before .before .before .before .before .before .before .before .before .args .n) _ _ _ _ refl (omega (arith, c .before .before .before .before .before .before .before .before .before .before .before .before .before .before .before .before .before .before .before .if1 .left)) (bytes-take (c .before .before .before .before .before .before .before .before .before .before .before .before .before .before .before .before .before .before .before .before .before .before .before .args .n) (c .before .before .before .before .before .before .before .before .before .before .before .before .before .before .before .before .before .before .before .before .before .before .before .args .buf .now) (λ k. omega (arith, c .before .before .before .before .before .before .before .before .before .before .before .before .before .before .before .before .before .before .before .before .before .before .slice-known .given k))) (c .before .before .before .before .before .before .before .before .before .before .before .before .before .before .before .open-with .ensures .1 (m .within)) (omega (arith, c .before .before .before .before .before .before .before .before .before .before .before .before .before .before .before .open-with .kept .1 .0)) m (ends .0) (ends .1))
-
-same-length-6 : tie.Need-same-length-6
-same-length-6 c = search needs
+    let rs = c .before .before .before .before .before in
+    let e6 = rs .before .before .before .before in
+    let f = e6 .before .before .before in
+    let ow = ow f in
+    let e2 = e2 ow in
+    let s = s e2 in
+    let ends = opened-end _ _ _ _ _ _ (sym (ow .open-with .ensures .0) ∙ f .found2 .given .1) in (
+      (
+        taken-held (s .args .buf .now) (s .args .n) (s .args .batch .now) (s .args .ids .now) (s .args .timestamp)
+            (omega (arith, e2 .before .if1 .left)) (omega (arith, e2 .if2 .left)) (begins f) (sym (e6 .before .batch-number2 .ensures) ∙ e6 .if6 .left),
+        (ow .open-with .kept .1 .0, rs .retire-states .kept .1 .1 .1 .1 .1 .0),
+      ),
+      base-later _ (s .args .buf .now) _ (s .args .n) _ _ _ _ refl (omega (arith, e2 .before .if1 .left)) (bytes f)
+          (ow .open-with .ensures .1 (found f .within)) (omega (arith, ow .open-with .kept .1 .0)) (found f) (ends .0) (ends .1),
+    )
 
 returns-8 : tie.Need-returns-8
 returns-8 c =
-    let r = opened-refused _ _ (sym (c .before .before .before .before .open-with .ensures .0) ∙ c .before .found .given .1) in
-    absurd (omega (arith, r .1, c .before .before .before .before .before .before .before .if2 .left, length-take (c .before .before .before .before .before .before .before .before .before .before .before .before .args .n) (c .before .before .before .before .before .before .before .before .before .before .before .before .args .buf .now)))
-
-same-length-7 : tie.Need-same-length-7
-same-length-7 c = search needs
+    let ow = c .before .before .before .before in
+    let e2 = ow .before .before .before in
+    let s = e2 .before .before .before .before .before in
+    let r = opened-refused _ _ (sym (ow .open-with .ensures .0) ∙ c .before .found .given .1) in
+    absurd (omega (arith, r .1, e2 .if2 .left, length-take (s .args .n) (s .args .buf .now)))
 
 returns-9 : tie.Need-returns-9
 returns-9 c =
-    let nf = opened-none _ _ (sym (c .before .before .before .before .before .before .before .before .before .before .before .before .before .before .open-with .ensures .0) ∙ c .before .before .before .before .before .before .before .before .before .before .before .enum-told .given .1) .1 in
-    let z : _≡_ {A = ℕ} 0 (c .before .before .before .before .before .before .before .before .before .before .before .before .before .before .before .before .before .before .before .before .before .before .args .n) = omega (arith, c .before .before .before .before .before .before .before .before .before .before .if3 .left) in
-    way-done (c .before .before .before .before .before .before .before .before .before .before .before .before .before .before .before .before .before .before .before .before .before .before .args .buf .now) (c .before .before .before .before .before .before .before .before .before .before .before .before .before .before .before .before .before .before .before .before .before .before .args .n) (c .before .before .before .before .before .before .before .before .before .before .before .before .before .before .before .before .before .before .before .before .before .before .args .batch .now) (c .before .before .before .before .before .before .before .before .before .before .before .before .before .before .before .before .before .before .before .before .before .before .args .ids .now) (c .before .before .before .before .before .before .before .before .before .before .before .before .before .before .before .before .before .before .before .before .before .before .args .timestamp) (omega (arith, c .before .before .before .before .before .before .before .before .before .before .before .before .before .before .before .before .before .before .if1 .left)) (omega (arith, c .before .before .before .before .before .before .before .before .before .before .before .before .before .before .before .before .before .if2 .left)) (λ z. omega (arith, c .before .before .before .before .before .before .before .before .before .before .if3 .left)) (sym (c .before .before .before .before .before .before .before .before .before .batch-number .ensures) ∙ c .before .before .before .before .before .before .before .before .if4 .left) (retire-none _ nf _ (omega (arith, c .before .before .before .before .before .before .before .if5 .left))) _ _ _ _ (ap (λ (k : ℕ). opened (take k (c .before .before .before .before .before .before .before .before .before .before .before .before .before .before .before .before .before .before .before .before .before .before .args .buf .now))) z) (c .before .before .before .finish .ensures .0) (c .before .before .before .finish .ensures .1) (states-empty _ nf _ _)
-
-same-length-8 : tie.Need-same-length-8
-same-length-8 c = search needs
+    let f = c .before .before .before in
+    let e5 = f .before .before .before .before in
+    let e3 = e5 .before .before .before in
+    let e2 = e2 (e3 .before .before .before .before) in
+    let s = s e2 in
+    let nf = none-found (e3 .before) in
+    let z : _≡_ {A = ℕ} 0 (s .args .n) = omega (arith, e3 .if3 .left) in
+    way-done (s .args .buf .now) (s .args .n) (s .args .batch .now) (s .args .ids .now) (s .args .timestamp)
+    (omega (arith, e2 .before .if1 .left)) (omega (arith, e2 .if2 .left)) (λ z. omega (arith, e3 .if3 .left))
+    (sym (e5 .before .before .batch-number .ensures) ∙ e5 .before .if4 .left) (retire-none _ nf _ (omega (arith, e5 .if5 .left)))
+    _ _ _ _ (ap (λ (k : ℕ). opened (take k (s .args .buf .now))) z) (f .finish .ensures .0) (f .finish .ensures .1) (states-empty _ nf _ _)
 
 returns-10 : tie.Need-returns-10
 returns-10 c =
-    let m = opened-at _ _ _ _ _ _ (sym (c .before .before .before .before .before .before .before .before .before .before .before .before .before .before .before .before .before .before .before .open-with .ensures .0) ∙ c .before .before .before .before .before .before .before .before .before .before .before .before .before .before .before .before .found2 .given .1) in
-    let ends = opened-end _ _ _ _ _ _ (sym (c .before .before .before .before .before .before .before .before .before .before .before .before .before .before .before .before .before .before .before .open-with .ensures .0) ∙ c .before .before .before .before .before .before .before .before .before .before .before .before .before .before .before .before .found2 .given .1) in
-    let t = sym (c .before .before .before .before .before .before .before .before .before .retire-states .ensures .0) ∙ not-false _ (c .before .before .before .before .before .before .before .if7 .left) in
-    way-done (c .before .before .before .before .before .before .before .before .before .before .before .before .before .before .before .before .before .before .before .before .before .before .before .before .before .before .before .args .buf .now) (c .before .before .before .before .before .before .before .before .before .before .before .before .before .before .before .before .before .before .before .before .before .before .before .before .before .before .before .args .n) (c .before .before .before .before .before .before .before .before .before .before .before .before .before .before .before .before .before .before .before .before .before .before .before .before .before .before .before .args .batch .now) (c .before .before .before .before .before .before .before .before .before .before .before .before .before .before .before .before .before .before .before .before .before .before .before .before .before .before .before .args .ids .now) (c .before .before .before .before .before .before .before .before .before .before .before .before .before .before .before .before .before .before .before .before .before .before .before .before .before .before .before .args .timestamp) (omega (arith, c .before .before .before .before .before .before .before .before .before .before .before .before .before .before .before .before .before .before .before .before .before .before .before .if1 .left)) (omega (arith, c .before .before .before .before .before .before .before .before .before .before .before .before .before .before .before .before .before .before .before .before .before .before .if2 .left)) (λ z. let q = sym (m .opens) ∙ z in absurd (let w : _≡_ {A = ℕ} 0 1 = cc in omega arith)) (sym (c .before .before .before .before .before .before .before .before .before .before .before .before .before .before .batch-number2 .ensures) ∙ c .before .before .before .before .before .before .before .before .before .before .before .before .before .if6 .left) t _ _ _ _ (front-opens _ (c .before .before .before .before .before .before .before .before .before .before .before .before .before .before .before .before .before .before .before .before .before .before .before .before .before .before .before .args .buf .now) _ (c .before .before .before .before .before .before .before .before .before .before .before .before .before .before .before .before .before .before .before .before .before .before .before .before .before .before .before .args .n) _ _ _ _ refl (omega (arith, c .before .before .before .before .before .before .before .before .before .before .before .before .before .before .before .before .before .before .before .before .before .before .before .if1 .left)) (bytes-take (c .before .before .before .before .before .before .before .before .before .before .before .before .before .before .before .before .before .before .before .before .before .before .before .before .before .before .before .args .n) (c .before .before .before .before .before .before .before .before .before .before .before .before .before .before .before .before .before .before .before .before .before .before .before .before .before .before .before .args .buf .now) (λ k. omega (arith, c .before .before .before .before .before .before .before .before .before .before .before .before .before .before .before .before .before .before .before .before .before .before .before .before .before .before .slice-known .given k))) (c .before .before .before .before .before .before .before .before .before .before .before .before .before .before .before .before .before .before .before .open-with .ensures .1 (m .within)) (omega (arith, c .before .before .before .before .before .before .before .before .before .before .before .before .before .before .before .before .before .before .before .open-with .kept .1 .0)) m (ends .0) (ends .1)) (c .before .before .before .finish2 .ensures .0) (c .before .before .before .finish2 .ensures .1) (states-later _ (c .before .before .before .before .before .before .before .before .before .before .before .before .before .before .before .before .before .before .before .before .before .before .before .before .before .before .before .args .buf .now) _ (c .before .before .before .before .before .before .before .before .before .before .before .before .before .before .before .before .before .before .before .before .before .before .before .before .before .before .before .args .n) _ _ _ _ refl (omega (arith, c .before .before .before .before .before .before .before .before .before .before .before .before .before .before .before .before .before .before .before .before .before .before .before .if1 .left)) (bytes-take (c .before .before .before .before .before .before .before .before .before .before .before .before .before .before .before .before .before .before .before .before .before .before .before .before .before .before .before .args .n) (c .before .before .before .before .before .before .before .before .before .before .before .before .before .before .before .before .before .before .before .before .before .before .before .before .before .before .before .args .buf .now) (λ k. omega (arith, c .before .before .before .before .before .before .before .before .before .before .before .before .before .before .before .before .before .before .before .before .before .before .before .before .before .before .slice-known .given k))) (c .before .before .before .before .before .before .before .before .before .before .before .before .before .before .before .before .before .before .before .open-with .ensures .1 (m .within)) (omega (arith, c .before .before .before .before .before .before .before .before .before .before .before .before .before .before .before .before .before .before .before .open-with .kept .1 .0)) m (ends .0) (ends .1) _ _ _ (c .before .before .before .before .before .before .before .before .before .retire-states .ensures .1 (not-false _ (c .before .before .before .before .before .before .before .if7 .left))))
+    let fi = c .before .before .before in
+    let e7 = fi .before .before .before .before in
+    let rs = e7 .before .before in
+    let e6 = rs .before .before .before .before in
+    let f = e6 .before .before .before in
+    let ow = ow f in
+    let e2 = e2 ow in
+    let s = s e2 in
+    let ends = opened-end _ _ _ _ _ _ (sym (ow .open-with .ensures .0) ∙ f .found2 .given .1) in
+    way-done (s .args .buf .now) (s .args .n) (s .args .batch .now) (s .args .ids .now) (s .args .timestamp)
+    (omega (arith, e2 .before .if1 .left)) (omega (arith, e2 .if2 .left)) (begins f) (sym (e6 .before .batch-number2 .ensures) ∙ e6 .if6 .left)
+    (sym (rs .retire-states .ensures .0) ∙ not-false _ (e7 .if7 .left)) _ _ _ _
+    (front-opens _ (s .args .buf .now) _ (s .args .n) _ _ _ _ refl (omega (arith, e2 .before .if1 .left)) (bytes f)
+    (ow .open-with .ensures .1 (found f .within)) (omega (arith, ow .open-with .kept .1 .0)) (found f) (ends .0) (ends .1))
+    (fi .finish2 .ensures .0) (fi .finish2 .ensures .1)
+    (states-later _ (s .args .buf .now) _ (s .args .n) _ _ _ _ refl (omega (arith, e2 .before .if1 .left)) (bytes f)
+    (ow .open-with .ensures .1 (found f .within)) (omega (arith, ow .open-with .kept .1 .0)) (found f) (ends .0) (ends .1)
+    _ _ _ (rs .retire-states .ensures .1 (not-false _ (e7 .if7 .left))))
 
 pub append-spec : {M : Type 1} → statement M
 append-spec =
     tie.close
     (tie.spec
-    returns
-    returns-2
-    slice-reshare-prefix-open-with
-    slice-aggregate-open-with
-    slice-aggregate-open-with-2
-    open-with-requires
-    enum-known-found
-    enum-told
-    same-length
-    returns-3
-    batch-number-requires
-    same-length-2
-    returns-4
-    same-length-3
-    returns-5
-    slice-aggregate-finish
-    slice-aggregate-finish-2
-    finish-requires
-    enum-known-found-2
-    batch-number-requires-2
-    same-length-4
-    returns-6
-    slice-reshare-prefix-retire-states
-    slice-aggregate-retire-states
-    slice-aggregate-retire-states-2
-    slice-aggregate-retire-states-3
-    retire-states-requires
-    same-length-5
-    returns-7
-    add-finish
-    slice-aggregate-finish-3
-    slice-aggregate-finish-4
-    finish-requires-2
-    same-length-6
-    returns-8
-    same-length-7
-    returns-9
-    same-length-8
-    returns-10)
+    returns returns-2 (λ c. search needs) slice-aggregate-open-with (λ c. search needs) (λ c κs. search needs)
+    (λ c. search needs) (λ c. search needs) (λ c. search needs) returns-3 (λ c κs. search needs)
+    (λ c. search needs) returns-4 (λ c. search needs) returns-5 (λ c. search needs) (λ c. search needs)
+    finish-requires (λ c. search needs) (λ c κs. search needs) (λ c. search needs) returns-6 (λ c. search needs)
+    slice-aggregate-retire-states (λ c. search needs) (λ c. search needs) retire-states-requires
+    (λ c. search needs) returns-7 add-finish (λ c. search needs) (λ c. search needs) finish-requires-2
+    (λ c. search needs) returns-8 (λ c. search needs) returns-9 (λ c. search needs) returns-10)

@@ -30,19 +30,29 @@ u64-at-requires : tie.Need-u64-at-requires Inv-loop μ-loop
 u64-at-requires c κs = omega (arith, c .before .before .before .before .before .before .before .pre .1 (c .before .before .loop .i) (omega arith))
 
 mul-entry-ids : tie.Need-mul-entry-ids Inv-loop μ-loop
-mul-entry-ids c = omega (arith, c .before .before .before .loop .inv .ids-long, c .before .before .before .before .before .before .before .before .pre .0 .0)
+mul-entry-ids c =
+    let l = c .before .before .before in
+    omega (arith, l .loop .inv .ids-long, l .before .before .before .before .before .pre .0 .0)
 
 slice-write-entry-ids : tie.Need-slice-write-entry-ids Inv-loop μ-loop
-slice-write-entry-ids c = omega (arith, c .before .before .before .loop .inv .ids-long, c .before .before .before .before .before .before .before .before .pre .0 .0)
+slice-write-entry-ids c =
+    let l = c .before .before .before in
+    omega (arith, l .loop .inv .ids-long, l .before .before .before .before .before .pre .0 .0)
 
 add-kinds : tie.Need-add-kinds Inv-loop μ-loop
-add-kinds c = omega (arith, c .before .before .before .before .before .before .before .before .pre .1 (c .before .before .before .loop .i) (omega arith))
+add-kinds c =
+    let l = c .before .before .before in
+    omega (arith, l .before .before .before .before .before .pre .1 (l .loop .i) (omega arith))
 
 shared-slice-read-kinds : tie.Need-shared-slice-read-kinds Inv-loop μ-loop
-shared-slice-read-kinds c = omega (arith, c .before .before .before .before .before .before .before .before .before .pre .1 (c .before .before .before .before .loop .i) (omega arith))
+shared-slice-read-kinds c =
+    let l = c .before .before .before .before in
+    omega (arith, l .before .before .before .before .before .pre .1 (l .loop .i) (omega arith))
 
 slice-write-kinds : tie.Need-slice-write-kinds Inv-loop μ-loop
-slice-write-kinds c = omega (arith, c .before .before .before .before .loop .inv .kinds-long, c .before .before .before .before .before .before .before .before .before .pre .0 .1)
+slice-write-kinds c =
+    let l = c .before .before .before .before in
+    omega (arith, l .loop .inv .kinds-long, l .before .before .before .before .before .pre .0 .1)
 
 add-i : tie.Need-add-i Inv-loop μ-loop
 add-i c = omega arith
@@ -51,13 +61,10 @@ loop-less : tie.Need-loop-less Inv-loop μ-loop
 loop-less c = omega arith
 
 loop-again : tie.Need-loop-again Inv-loop μ-loop
-loop-again c = read-next _ _ _ _ _ _ _ (c .before .before .before .before .loop .inv) (omega arith) (c .before .before .before .before .before .before .before .before .before .pre .0 .0) (c .before .before .before .before .before .before .before .before .before .pre .0 .1) _ (c .before .u64-at .ensures)
-
-same-length : tie.Need-same-length Inv-loop μ-loop
-same-length c = search needs
-
-same-length-2 : tie.Need-same-length-2 Inv-loop μ-loop
-same-length-2 c = search needs
+loop-again c =
+    let l = c .before .before .before .before in
+    let s = l .before .before .before .before .before in
+    read-next _ _ _ _ _ _ _ (l .loop .inv) (omega arith) (s .pre .0 .0) (s .pre .0 .1) _ (c .before .u64-at .ensures)
 
 returns : tie.Need-returns Inv-loop μ-loop
 returns c = read-last _ _ _ _ _ _ _ (c .before .loop .inv) (omega arith)
@@ -66,21 +73,6 @@ pub read-entries-spec : {M : Type 1} → statement M
 read-entries-spec =
     tie.close
     (tie.spec
-    Inv-loop
-    μ-loop
-    loop-holds
-    mul-offset
-    shared-slice-read-offset
-    add-u64-at
-    u64-at-requires
-    mul-entry-ids
-    slice-write-entry-ids
-    add-kinds
-    shared-slice-read-kinds
-    slice-write-kinds
-    add-i
-    loop-less
-    loop-again
-    same-length
-    same-length-2
-    returns)
+    Inv-loop μ-loop loop-holds mul-offset shared-slice-read-offset add-u64-at u64-at-requires mul-entry-ids
+    slice-write-entry-ids add-kinds shared-slice-read-kinds slice-write-kinds add-i loop-less loop-again
+    (λ c. search needs) (λ c. search needs) returns)

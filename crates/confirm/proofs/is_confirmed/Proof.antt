@@ -19,18 +19,10 @@ returns c = other-kind _ _ _ _ _ _ (c .if1 .taken)
 
 returns-2 : tie.Need-returns-2
 returns-2 c =
-    let e = length-take-le (c .before .before .before .before .args .n) (c .before .before .before .before .args .offsets .now) (c .before .before .before .before .pre .0 .0) in
-    let h : 1024 < length (take (c .before .before .before .before .args .n) (c .before .before .before .before .args .offsets .now)) = omega (arith, e) in
+    let s = c .before .before .before .before in
+    let e = length-take-le (s .args .n) (s .args .offsets .now) (s .pre .0 .0) in
+    let h : 1024 < length (take (s .args .n) (s .args .offsets .now)) = omega (arith, e) in
     too-many _ _ _ _ _ _ h
-
-mul-round-up : tie.Need-mul-round-up
-mul-round-up c = search needs
-
-add-round-up : tie.Need-add-round-up
-add-round-up c = search needs
-
-round-up-requires : tie.Need-round-up-requires
-round-up-requires c κs = search needs
 
 add-if3 : tie.Need-add-if3
 unfolding round64
@@ -39,45 +31,38 @@ add-if3 c = omega (arith, c .round-up .ensures)
 returns-3 : tie.Need-returns-3
 unfolding payloadLength recordBy
 returns-3 c =
-    let e = length-take-le (c .before .before .before .before .before .before .args .n) (c .before .before .before .before .before .before .args .offsets .now) (c .before .before .before .before .before .before .pre .0 .0) in
-    other-length _ _ _ _ _ _ (c .before .before .before .before .before .before .pre .0 .1) (c .before .before .before .before .before .before .pre .1)
+    let s = c .before .before .before .before .before .before in
+    let e = length-take-le (s .args .n) (s .args .offsets .now) (s .pre .0 .0) in
+    other-length _ _ _ _ _ _ (s .pre .0 .1) (s .pre .1)
     (λ q. c .if3 .taken (q ∙ ap (λ (m : ℕ). round64 (8 + 48 * m) + 4096) e ∙ ap (λ (m : ℕ). m + 4096) (sym (c .before .round-up .ensures))))
 
 slice-aggregate-confirm-with : tie.Need-slice-aggregate-confirm-with
-slice-aggregate-confirm-with c = sym (length-take-le (c .before .before .before .before .before .before .before .args .n) (c .before .before .before .before .before .before .before .args .offsets .now) (c .before .before .before .before .before .before .before .pre .0 .0))
-
-slice-aggregate-confirm-with-2 : tie.Need-slice-aggregate-confirm-with-2
-slice-aggregate-confirm-with-2 c = search needs
-
-slice-aggregate-confirm-with-3 : tie.Need-slice-aggregate-confirm-with-3
-slice-aggregate-confirm-with-3 c = search needs
+slice-aggregate-confirm-with c =
+    let s = c .before .before .before .before .before .before .before in
+    sym (length-take-le (s .args .n) (s .args .offsets .now) (s .pre .0 .0))
 
 confirm-with-requires : tie.Need-confirm-with-requires
 unfolding payloadLength recordBy round64
 confirm-with-requires c κs =
-    let e : length (take (c .before .before .before .before .before .before .before .before .before .args .n) (c .before .before .before .before .before .before .before .before .before .args .offsets .now)) ≡ c .before .before .before .before .before .before .before .before .before .args .n = length-take-le (c .before .before .before .before .before .before .before .before .before .args .n) (c .before .before .before .before .before .before .before .before .before .args .offsets .now) (c .before .before .before .before .before .before .before .before .before .pre .0 .0) in
-    let r = c .before .before .before .before .round-up .ensures in
-    let l = c .before .before .before .if3 .left in
-    ((c .before .before .before .before .before .before .before .before .before .pre .0 .1, omega (arith, e, r, l)), ((omega (arith, e), omega (arith, e)), (omega (arith, r, l), c .before .before .before .before .before .before .before .before .before .pre .1)))
+    let e3 = c .before .before .before in
+    let s = e3 .before .before .before .before .before .before in
+    let n = s .args .n in
+    let e : length (take n (s .args .offsets .now)) ≡ n = length-take-le n (s .args .offsets .now) (s .pre .0 .0) in
+    let r = e3 .before .round-up .ensures in
+    let l = e3 .if3 .left in
+    ((s .pre .0 .1, omega (arith, e, r, l)), ((omega (arith, e), omega (arith, e)), (omega (arith, r, l), s .pre .1)))
 
 returns-4 : tie.Need-returns-4
 returns-4 c =
+    let e1 = c .before .before .before .before .before .before .before .before .before in
+    let s = e1 .before .before .before in
     c .before .before .confirm-with .ensures
-    ∙ ap (λ (k : ℕ). confirmedAt (c .before .before .before .before .before .before .before .before .before .before .before .before .args .file .now) (take (c .before .before .before .before .before .before .before .before .before .before .before .before .args .n) (c .before .before .before .before .before .before .before .before .before .before .before .before .args .offsets .now)) (c .before .before .before .before .before .before .before .before .before .before .before .before .args .at) (c .before .before .before .before .before .before .before .before .before .before .before .before .args .len) k (c .before .before .before .before .before .before .before .before .before .before .before .before .args .id)) (sym (c .before .before .before .before .before .before .before .before .before .if1 .left))
+    ∙ ap (λ (k : ℕ). confirmedAt (s .args .file .now) (take (s .args .n) (s .args .offsets .now)) (s .args .at)
+    (s .args .len) k (s .args .id)) (sym (e1 .if1 .left))
 
 pub is-confirmed-spec : {M : Type 1} → statement M
 is-confirmed-spec =
     tie.close
     (tie.spec
-    returns
-    returns-2
-    mul-round-up
-    add-round-up
-    round-up-requires
-    add-if3
-    returns-3
-    slice-aggregate-confirm-with
-    slice-aggregate-confirm-with-2
-    slice-aggregate-confirm-with-3
-    confirm-with-requires
-    returns-4)
+    returns returns-2 (λ c. search needs) (λ c. search needs) (λ c κs. search needs) add-if3 returns-3
+    slice-aggregate-confirm-with (λ c. search needs) (λ c. search needs) confirm-with-requires returns-4)

@@ -19,35 +19,25 @@ abbrev μ-loop : tie.MeasureT-loop
 loop-holds : tie.Need-loop-holds Inv-loop μ-loop
 loop-holds c = held-first _ _ _ (c .before .before .before .pre .0)
 
-mul-offset : tie.Need-mul-offset Inv-loop μ-loop
-mul-offset c = search needs
-
-shared-slice-read-offset : tie.Need-shared-slice-read-offset Inv-loop μ-loop
-shared-slice-read-offset c = search needs
-
 add-kind : tie.Need-add-kind Inv-loop μ-loop
 add-kind c = omega (arith, c .before .before .before .before .before .before .pre .1 (c .before .before .loop .i) (omega arith))
 
 shared-slice-read-kind : tie.Need-shared-slice-read-kind Inv-loop μ-loop
-shared-slice-read-kind c = omega (arith, c .before .before .before .before .before .before .before .pre .1 (c .before .before .before .loop .i) (omega arith))
-
-shared-slice-read-state-held : tie.Need-shared-slice-read-state-held Inv-loop μ-loop
-shared-slice-read-state-held c = search needs
-
-state-held-requires : tie.Need-state-held-requires Inv-loop μ-loop
-state-held-requires c κs = search needs
+shared-slice-read-kind c =
+    let l = c .before .before .before in
+    omega (arith, l .before .before .before .before .pre .1 (l .loop .i) (omega arith))
 
 returns : tie.Need-returns Inv-loop μ-loop
-returns c = held-stop _ _ _ (c .before .before .before .before .before .before .before .before .before .before .pre .0) (c .before .before .before .before .before .before .loop .i) (c .before .before .before .before .before .before .loop .inv) (omega arith) (sym (c .before .state-held .ensures) ∙ not-true _ (c .if1 .taken))
-
-add-i : tie.Need-add-i Inv-loop μ-loop
-add-i c = search needs
-
-loop-less : tie.Need-loop-less Inv-loop μ-loop
-loop-less c = search needs
+returns c =
+    let l = c .before .before .before .before .before .before in
+    held-stop _ _ _ (l .before .before .before .before .pre .0) (l .loop .i) (l .loop .inv) (omega arith)
+    (sym (c .before .state-held .ensures) ∙ not-true _ (c .if1 .taken))
 
 loop-again : tie.Need-loop-again Inv-loop μ-loop
-loop-again c = held-next _ _ _ (c .before .before .before .before .before .before .before .before .before .before .pre .0) (c .before .before .before .before .before .before .loop .i) (c .before .before .before .before .before .before .loop .inv) (omega arith) (sym (c .before .state-held .ensures) ∙ not-false _ (c .if1 .left))
+loop-again c =
+    let l = c .before .before .before .before .before .before in
+    held-next _ _ _ (l .before .before .before .before .pre .0) (l .loop .i) (l .loop .inv) (omega arith)
+    (sym (c .before .state-held .ensures) ∙ not-false _ (c .if1 .left))
 
 returns-2 : tie.Need-returns-2 Inv-loop μ-loop
 returns-2 c = held-last _ _ _ (c .before .before .before .before .before .pre .0) (c .before .loop .i) (c .before .loop .inv) (omega arith)
@@ -56,17 +46,6 @@ pub states-held-spec : {M : Type 1} → statement M
 states-held-spec =
     tie.close
     (tie.spec
-    Inv-loop
-    μ-loop
-    loop-holds
-    mul-offset
-    shared-slice-read-offset
-    add-kind
-    shared-slice-read-kind
-    shared-slice-read-state-held
-    state-held-requires
-    returns
-    add-i
-    loop-less
-    loop-again
+    Inv-loop μ-loop loop-holds (λ c. search needs) (λ c. search needs) add-kind shared-slice-read-kind
+    (λ c. search needs) (λ c κs. search needs) returns (λ c. search needs) (λ c. search needs) loop-again
     returns-2)

@@ -16,7 +16,12 @@ rest-requires c κs = search needs
 cast-result : tie.Need-cast-result
 cast-result c =
     let s = c .before .before .before .args .«data» .now in
-    omega (arith, crcOf-by s (c .rest .result) (c .rest .ensures ∙ c .before .lanes .ensures .0), crcOf-lt s (λ k. omega (arith, c .before .before .shared-slice-known .given k)))
+    omega (
+      arith,
+      crcOf-by s (c .rest .result) (c .rest .ensures ∙ c .before .lanes .ensures .0),
+      crcOf-lt s
+          (λ k. omega (arith, c .before .before .shared-slice-known .given k)),
+    )
 
 returns : tie.Need-returns
 returns c = crcOf-by (c .before .before .before .args .«data» .now) (c .rest .result) (c .rest .ensures ∙ c .before .lanes .ensures .0)

@@ -21,32 +21,19 @@ abbrev μ-loop : tie.MeasureT-loop
 loop-holds : tie.Need-loop-holds Inv-loop μ-loop
 loop-holds c = (search needs, (refl, sym (over-none _ 0)))
 
-mul-ids : tie.Need-mul-ids Inv-loop μ-loop
-mul-ids c = search needs
-
-shared-slice-read-ids : tie.Need-shared-slice-read-ids Inv-loop μ-loop
-shared-slice-read-ids c = search needs
-
-mul-ids-2 : tie.Need-mul-ids-2 Inv-loop μ-loop
-mul-ids-2 c = search needs
-
-slice-write-ids : tie.Need-slice-write-ids Inv-loop μ-loop
-slice-write-ids c = search needs
-
-add-i : tie.Need-add-i Inv-loop μ-loop
-add-i c = search needs
-
-loop-less : tie.Need-loop-less Inv-loop μ-loop
-loop-less c = search needs
-
 loop-again : tie.Need-loop-again Inv-loop μ-loop
 loop-again c =
-    let from = c .before .before .before .args .from .now in
-    let h : c .before .before .loop .i < length from = omega arith in
-    (search needs, (search needs, rw (add-one, take-suc from (c .before .before .loop .i) 0 h) (over-front _ _ _ _ _ (c .before .before .loop .inv .1 .1) (length-take-le (c .before .before .loop .i) from (omega arith)) (omega arith))))
-
-same-length : tie.Need-same-length Inv-loop μ-loop
-same-length c = search needs
+    let l = c .before .before in
+    let i = l .loop .i in
+    let from = l .before .args .from .now in
+    let h : i < length from = omega arith in (
+      search needs,
+      (
+        search needs,
+        rw (add-one, take-suc from i 0 h)
+            (over-front _ _ _ _ _ (l .loop .inv .1 .1) (length-take-le i from (omega arith)) (omega arith)),
+      ),
+    )
 
 returns : tie.Need-returns Inv-loop μ-loop
 returns c =
@@ -57,15 +44,5 @@ pub copy-ids-spec : {M : Type 1} → statement M
 copy-ids-spec =
     tie.close
     (tie.spec
-    Inv-loop
-    μ-loop
-    loop-holds
-    mul-ids
-    shared-slice-read-ids
-    mul-ids-2
-    slice-write-ids
-    add-i
-    loop-less
-    loop-again
-    same-length
-    returns)
+    Inv-loop μ-loop loop-holds (λ c. search needs) (λ c. search needs) (λ c. search needs) (λ c. search needs)
+    (λ c. search needs) (λ c. search needs) loop-again (λ c. search needs) returns)

@@ -12,22 +12,14 @@ use Rattle.idmap_write.proofs.encoded_len.Tie as tie
 raws : (c : tie.Then1) → Raw (c .before .before .args .ids .now) (c .before .before .args .encoding) (c .before .before .args .interval)
 raws c = raw-facts _ _ _ (c .before .before .pre) (c .if1 .taken)
 
-deltas : (c : tie.After-interval-of) → Delta (c .before .before .before .args .ids .now) (c .before .before .before .args .encoding) (c .before .before .before .args .interval) (c .interval-of .result)
+deltas : (c : tie.After-interval-of) → Delta (c .before .before .before .args .ids .now)
+    (c .before .before .before .args .encoding) (c .before .before .before .args .interval) (c .interval-of .result)
 deltas c = delta-facts _ _ _ _ (c .before .before .before .pre) (c .before .if1 .left) (c .interval-of .ensures)
-
-mul-result : tie.Need-mul-result
-mul-result c = search needs
-
-add-result : tie.Need-add-result
-add-result c = search needs
 
 returns : tie.Need-returns
 returns c =
     let f = raws c in
     (sym (f .size), omega (arith, f .most))
-
-interval-of-requires : tie.Need-interval-of-requires
-interval-of-requires c κs = search needs
 
 sub-start : tie.Need-sub-start
 sub-start c = omega (arith, deltas c .pos)
@@ -63,15 +55,5 @@ pub encoded-len-spec : {M : Type 1} → statement M
 encoded-len-spec =
     tie.close
     (tie.spec
-    mul-result
-    add-result
-    returns
-    interval-of-requires
-    sub-start
-    add-start
-    div-start
-    mul-start
-    add-start-2
-    deltas-len-requires
-    add-result-2
-    returns-2)
+    (λ c. search needs) (λ c. search needs) returns (λ c κs. search needs) sub-start add-start div-start
+    mul-start add-start-2 deltas-len-requires add-result-2 returns-2)

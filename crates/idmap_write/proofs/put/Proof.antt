@@ -11,28 +11,30 @@ use borrow.Author.Needs.{needs}
 use Rattle.idmap_write.proofs.put.Statement.{statement}
 use Rattle.idmap_write.proofs.put.Tie as tie
 
-raws : (c : tie.Then1) → Raw (c .before .before .before .args .ids .now) (c .before .before .before .args .encoding) (c .before .before .before .args .interval)
+raws : (c : tie.Then1) → Raw (c .before .before .before .args .ids .now)
+    (c .before .before .before .args .encoding) (c .before .before .before .args .interval)
 raws c = raw-facts _ _ _ (c .before .before .before .pre .0) (c .if1 .taken)
 
-deltas : (c : tie.After-interval-of) → Delta (c .before .before .before .before .args .ids .now) (c .before .before .before .before .args .encoding) (c .before .before .before .before .args .interval) (c .interval-of .result)
+deltas : (c : tie.After-interval-of) → Delta (c .before .before .before .before .args .ids .now)
+    (c .before .before .before .before .args .encoding) (c .before .before .before .before .args .interval)
+    (c .interval-of .result)
 deltas c = delta-facts _ _ _ _ (c .before .before .before .before .pre .0) (c .before .if1 .left) (c .interval-of .ensures)
 
 put-head-requires : tie.Need-put-head-requires
 put-head-requires c κs = let f = raws (c .before) in omega (arith, f .size, c .before .before .before .before .pre .1)
 
 put-raw-requires : tie.Need-put-raw-requires
-put-raw-requires c κs = let f = raws (c .before .before .before .before .before) in omega (arith, f .size, c .before .before .before .before .before .before .before .before .pre .1, c .before .before .before .put-head .kept .0)
-
-same-length : tie.Need-same-length
-same-length c = search needs
+put-raw-requires c κs =
+    let ph = c .before .before .before in
+    let f = raws (ph .before .before) in omega (arith, f .size, ph .before .before .before .before .before .pre .1, ph .put-head .kept .0)
 
 returns : tie.Need-returns
 returns c =
-    let f = raws (c .before .before .before .before .before .before .before .before) in
-    rw (f .bytes) (whole-laid _ _ _ _ _ (length-head 0 0 _) (omega (arith, f .size, c .before .before .before .before .before .before .before .before .before .before .before .pre .1)) (c .before .before .before .before .before .before .put-head .ensures) (c .before .before .put-raw .ensures))
-
-interval-of-requires : tie.Need-interval-of-requires
-interval-of-requires c κs = search needs
+    let ph = c .before .before .before .before .before .before in
+    let f = raws (ph .before .before) in
+    rw (f .bytes) (whole-laid _ _ _ _ _ (length-head 0 0 _)
+    (omega (arith, f .size, ph .before .before .before .before .before .pre .1)) (ph .put-head .ensures)
+    (c .before .before .put-raw .ensures))
 
 sub-start : tie.Need-sub-start
 sub-start c = omega (arith, deltas c .pos)
@@ -57,32 +59,21 @@ put-head-requires-2 c κs = let f = deltas (c .before) in omega (arith, f .size,
 put-deltas-requires : tie.Need-put-deltas-requires
 unfolding groups
 put-deltas-requires c κs =
-    let f = deltas (c .before .before .before .before .before) in
-    ((f .pos, f .up), (f .begins, omega (arith, f .size, c .before .before .before .before .before .before .before .before .before .pre .1, c .before .before .before .put-head2 .kept .0)))
-
-same-length-2 : tie.Need-same-length-2
-same-length-2 c = search needs
+    let ph2 = c .before .before .before in
+    let f = deltas (ph2 .before .before) in
+    ((f .pos, f .up), (f .begins, omega (arith, f .size, ph2 .before .before .before .before .before .before .pre .1, ph2 .put-head2 .kept .0)))
 
 returns-2 : tie.Need-returns-2
 returns-2 c =
-    let f = deltas (c .before .before .before .before .before .before .before .before) in
-    rw (f .bytes) (whole-laid _ _ _ _ _ (length-head 1 _ _) (omega (arith, f .size, c .before .before .before .before .before .before .before .before .before .before .before .before .pre .1)) (c .before .before .before .before .before .before .put-head2 .ensures) (c .before .before .put-deltas .ensures))
+    let ph2 = c .before .before .before .before .before .before in
+    let f = deltas (ph2 .before .before) in
+    rw (f .bytes) (whole-laid _ _ _ _ _ (length-head 1 _ _)
+    (omega (arith, f .size, ph2 .before .before .before .before .before .before .pre .1)) (ph2 .put-head2 .ensures)
+    (c .before .before .put-deltas .ensures))
 
 pub put-spec : {M : Type 1} → statement M
 put-spec =
     tie.close
     (tie.spec
-    put-head-requires
-    put-raw-requires
-    same-length
-    returns
-    interval-of-requires
-    sub-start
-    add-start
-    div-start
-    mul-start
-    add-start-2
-    put-head-requires-2
-    put-deltas-requires
-    same-length-2
-    returns-2)
+    put-head-requires put-raw-requires (λ c. search needs) returns (λ c κs. search needs) sub-start add-start
+    div-start mul-start add-start-2 put-head-requires-2 put-deltas-requires (λ c. search needs) returns-2)

@@ -33,17 +33,12 @@ same-length : tie.Need-same-length
 same-length c = c .before .before .copy .kept .0
 
 returns-2 : tie.Need-returns-2
-returns-2 c = text-copied (c .before .before .before .before .before .before .before .put-text .ensures) _ _ (omega arith) (c .before .before .copy .ensures)
+returns-2 c = text-copied (c .before .before .before .before .before .before .before .put-text .ensures) _ _
+    (omega arith) (c .before .before .copy .ensures)
 
 pub list-spec : {M : Type 1} → statement M
 list-spec =
     tie.close
     (tie.spec
-    slice-aggregate-put-text
-    put-text-requires
-    returns
-    array-share-prefix-text
-    slice-aggregate-copy
-    copy-requires
-    same-length
-    returns-2)
+    slice-aggregate-put-text put-text-requires returns array-share-prefix-text slice-aggregate-copy
+    copy-requires same-length returns-2)

@@ -21,27 +21,18 @@ abbrev μ-loop : tie.MeasureT-loop
 loop-holds : tie.Need-loop-holds Inv-loop μ-loop
 loop-holds c = (search needs, (refl, sym (over-none _ 0)))
 
-shared-slice-read-buf : tie.Need-shared-slice-read-buf Inv-loop μ-loop
-shared-slice-read-buf c = search needs
-
-slice-write-buf : tie.Need-slice-write-buf Inv-loop μ-loop
-slice-write-buf c = search needs
-
-add-i : tie.Need-add-i Inv-loop μ-loop
-add-i c = search needs
-
-loop-less : tie.Need-loop-less Inv-loop μ-loop
-loop-less c = search needs
-
 loop-again : tie.Need-loop-again Inv-loop μ-loop
 loop-again c =
     let l = c .before .before .loop in
     let body = c .before .before .before .args .body .now in
-    let h : l .i < length body = omega arith in
-    (search needs, (search needs, rw (add-one, take-suc body (l .i) 0 h) (over-front _ _ _ _ _ (l .inv .1 .1) (length-take-le (l .i) body (omega arith)) (omega arith))))
-
-same-length : tie.Need-same-length Inv-loop μ-loop
-same-length c = search needs
+    let h : l .i < length body = omega arith in (
+      search needs,
+      (
+        search needs,
+        rw (add-one, take-suc body (l .i) 0 h)
+            (over-front _ _ _ _ _ (l .inv .1 .1) (length-take-le (l .i) body (omega arith)) (omega arith)),
+      ),
+    )
 
 returns : tie.Need-returns Inv-loop μ-loop
 returns c =
@@ -52,13 +43,5 @@ pub copy-spec : {M : Type 1} → statement M
 copy-spec =
     tie.close
     (tie.spec
-    Inv-loop
-    μ-loop
-    loop-holds
-    shared-slice-read-buf
-    slice-write-buf
-    add-i
-    loop-less
-    loop-again
-    same-length
-    returns)
+    Inv-loop μ-loop loop-holds (λ c. search needs) (λ c. search needs) (λ c. search needs) (λ c. search needs)
+    loop-again (λ c. search needs) returns)

@@ -27,23 +27,23 @@ shared-slice-read-kind c = omega (arith, c .before .before .before .before .befo
 
 is-confirmed-requires : tie.Need-is-confirmed-requires
 is-confirmed-requires c κs =
-    let few = stored-few _ _ _ (c .before .before .before .before .before .pre .0 .0) in
-    ((omega arith, omega (arith, c .before .before .before .before .before .pre .1 .room, c .before .before .before .before .before .pre .1 .length-is, c .before .before .u64-at .ensures)), candidate-inside _ _ _ _ _ (c .before .before .before .before .before .pre .0 .0) (c .before .before .before .before .before .pre .0 .1 .0) (c .before .before .before .before .before .pre .1))
+    let s = c .before .before .before .before .before in
+    let few = stored-few _ _ _ (s .pre .0 .0) in (
+      (omega arith, omega (arith, s .pre .1 .room, s .pre .1 .length-is, c .before .before .u64-at .ensures)),
+      candidate-inside _ _ _ _ _ (s .pre .0 .0) (s .pre .0 .1 .0) (s .pre .1),
+    )
 
 returns : tie.Need-returns
 returns c =
-    candidate-is _ _ _ _ _ (c .before .before .before .before .before .before .pre .0 .0) (c .before .before .before .before .before .before .pre .0 .1 .0) (c .before .before .before .before .before .before .pre .1) (λ k. omega (arith, c .before .before .before .before .before .shared-slice-known .given k)) _ _ _ _
-    (c .before .before .before .u64-at .ensures) refl (c .before .before .u64-at2 .ensures) (c .is-confirmed .ensures)
+    let ua2 = c .before .before in
+    let ssk = ua2 .before .before .before in
+    candidate-is _ _ _ _ _ (ssk .before .pre .0 .0) (ssk .before .pre .0 .1 .0) (ssk .before .pre .1)
+    (λ k. omega (arith, ssk .shared-slice-known .given k)) _ _ _ _
+    (ua2 .before .u64-at .ensures) refl (ua2 .u64-at2 .ensures) (c .is-confirmed .ensures)
 
 pub candidate-spec : {M : Type 1} → statement M
 candidate-spec =
     tie.close
     (tie.spec
-    add-u64-at
-    u64-at-requires
-    add-u64-at-2
-    u64-at-requires-2
-    add-kind
-    shared-slice-read-kind
-    is-confirmed-requires
-    returns)
+    add-u64-at u64-at-requires add-u64-at-2 u64-at-requires-2 add-kind shared-slice-read-kind
+    is-confirmed-requires returns)

@@ -20,7 +20,9 @@ same-length : tie.Need-same-length
 same-length c = search needs
 
 returns-2 : tie.Need-returns-2
-returns-2 c = (open-within _ _ (c .before .before .before .before .before .before .if1 .left) (c .search .ensures), λ h. indexed _ _ _ (c .before .before .before .before .collect .ensures .0) (c .before .before .before .before .collect .ensures .1))
+returns-2 c =
+    let c′ = c .before .before .before .before in
+    (open-within _ _ (c′ .before .before .if1 .left) (c .search .ensures), λ h. indexed _ _ _ (c′ .collect .ensures .0) (c′ .collect .ensures .1))
 
 pub open-with-spec : {M : Type 1} → statement M
 open-with-spec =

@@ -22,29 +22,18 @@ Inv-loop file offsets n k₀ p₀ tried₀ k p tried = DownAt confirmed file off
 abbrev μ-loop : tie.MeasureT-loop
 μ-loop file offsets n k₀ p₀ tried₀ k p tried = p
 
-mul-p : tie.Need-mul-p Inv-loop μ-loop
-mul-p c = search needs
-
 loop-holds : tie.Need-loop-holds Inv-loop μ-loop
 loop-holds c = (down-first _ _ _ _ (c .before .before .pre .0), omega arith)
-
-add-tried : tie.Need-add-tried Inv-loop μ-loop
-add-tried c = search needs
 
 sub-p : tie.Need-sub-p Inv-loop μ-loop
 sub-p c = let a = c .before .loop .inv .0 .search .aligned in omega arith
 
-loop-less : tie.Need-loop-less Inv-loop μ-loop
-loop-less c = search needs
-
 loop-again : tie.Need-loop-again Inv-loop μ-loop
 loop-again c =
-    let a = c .before .before .loop .inv .0 .search .aligned in
-    let b = c .before .before .loop .inv .0 .search .inside in
-    (down-skip _ _ _ _ _ _ (c .before .before .loop .inv .0) (omega arith) bounded (λ h. absurd (omega arith)), omega arith)
-
-sub-i : tie.Need-sub-i Inv-loop μ-loop
-sub-i c = search needs
+    let l = c .before .before in
+    let a = l .loop .inv .0 .search .aligned in
+    let b = l .loop .inv .0 .search .inside in
+    (down-skip _ _ _ _ _ _ (l .loop .inv .0) (omega arith) bounded (λ h. absurd (omega arith)), omega arith)
 
 mul-if2 : tie.Need-mul-if2 Inv-loop μ-loop
 mul-if2 c =
@@ -54,32 +43,34 @@ mul-if2 c =
 
 shared-slice-read-if2 : tie.Need-shared-slice-read-if2 Inv-loop μ-loop
 shared-slice-read-if2 c =
-    let a = c .before .before .before .loop .inv .0 .few in
-    let b = stored-few _ _ _ (c .before .before .before .loop .inv .0 .stored) .1 in
+    let l = c .before .before .before in
+    let a = l .loop .inv .0 .few in
+    let b = stored-few _ _ _ (l .loop .inv .0 .stored) .1 in
     omega arith
-
-loop-less-2 : tie.Need-loop-less-2 Inv-loop μ-loop
-loop-less-2 c = search needs
 
 loop-again-2 : tie.Need-loop-again-2 Inv-loop μ-loop
 loop-again-2 c =
-    let a = c .before .before .before .before .loop .inv .0 .search .aligned in
-    let b = c .before .before .before .before .loop .inv .0 .search .inside in
-    (down-skip _ _ _ _ _ _ (c .before .before .before .before .loop .inv .0) (omega arith) bounded (λ h e. c .if2 .taken e), omega arith)
+    let l = c .before .before .before .before in
+    let a = l .loop .inv .0 .search .aligned in
+    let b = l .loop .inv .0 .search .inside in
+    (down-skip _ _ _ _ _ _ (l .loop .inv .0) (omega arith) bounded (λ h e. c .if2 .taken e), omega arith)
 
 candidate-requires : tie.Need-candidate-requires Inv-loop μ-loop
 candidate-requires c κs =
-    let a = c .before .before .before .before .loop .inv .0 .search .aligned in
-    let few = c .before .before .before .before .loop .inv .0 .few in
-    ((c .before .before .before .before .before .before .before .pre .0, (omega arith, c .before .before .before .before .before .before .before .pre .1 .0)), down-link _ _ _ _ _ _ (c .before .before .before .before .loop .inv .0) (omega arith) (c .if2 .left))
+    let l = c .before .before .before .before in
+    let s = l .before .before .before in
+    let a = l .loop .inv .0 .search .aligned in
+    let few = l .loop .inv .0 .few in
+    ((s .pre .0, (omega arith, s .pre .1 .0)), down-link _ _ _ _ _ _ (l .loop .inv .0) (omega arith) (c .if2 .left))
 
 add-u64-at : tie.Need-add-u64-at Inv-loop μ-loop
 add-u64-at c = let b = c .before .before .before .before .before .before .loop .inv .0 .search .inside in omega arith
 
 u64-at-requires : tie.Need-u64-at-requires Inv-loop μ-loop
 u64-at-requires c κs =
-    let a = c .before .before .before .before .before .before .loop .inv .0 .search .aligned in
-    let m = down-link _ _ _ _ _ _ (c .before .before .before .before .before .before .loop .inv .0) (omega arith) (c .before .before .if2 .left) in
+    let l = c .before .before .before .before .before .before in
+    let a = l .loop .inv .0 .search .aligned in
+    let m = down-link _ _ _ _ _ _ (l .loop .inv .0) (omega arith) (c .before .before .if2 .left) in
     omega (arith, m .room)
 
 add-t18 : tie.Need-add-t18 Inv-loop μ-loop
@@ -87,14 +78,18 @@ add-t18 c = let b = c .before .before .before .before .before .before .before .l
 
 round-up-requires : tie.Need-round-up-requires Inv-loop μ-loop
 round-up-requires c κs =
-    let a = c .before .before .before .before .before .before .before .loop .inv .0 .search .aligned in
-    let m = down-link _ _ _ _ _ _ (c .before .before .before .before .before .before .before .loop .inv .0) (omega arith) (c .before .before .before .if2 .left) in
+    let e2 = c .before .before .before in
+    let l = e2 .before .before .before .before in
+    let a = l .loop .inv .0 .search .aligned in
+    let m = down-link _ _ _ _ _ _ (l .loop .inv .0) (omega arith) (e2 .if2 .left) in
     omega (arith, m .room, m .length-is, c .u64-at .ensures)
 
 add-t20 : tie.Need-add-t20 Inv-loop μ-loop
 add-t20 c =
-    let a = c .before .before .before .before .before .before .before .before .loop .inv .0 .search .aligned in
-    let m = down-link _ _ _ _ _ _ (c .before .before .before .before .before .before .before .before .loop .inv .0) (omega arith) (c .before .before .before .before .if2 .left) in
+    let e2 = c .before .before .before .before in
+    let l = e2 .before .before .before .before in
+    let a = l .loop .inv .0 .search .aligned in
+    let m = down-link _ _ _ _ _ _ (l .loop .inv .0) (omega arith) (e2 .if2 .left) in
     omega (arith, m .room, m .length-is, c .before .u64-at .ensures, c .round-up .ensures, round64-lt (c .before .u64-at .result))
 
 add-u64-at-2 : tie.Need-add-u64-at-2 Inv-loop μ-loop
@@ -102,28 +97,37 @@ add-u64-at-2 c = let b = c .before .before .before .before .before .before .befo
 
 u64-at-requires-2 : tie.Need-u64-at-requires-2 Inv-loop μ-loop
 u64-at-requires-2 c κs =
-    let a = c .before .before .before .before .before .before .before .before .loop .inv .0 .search .aligned in
-    let m = down-link _ _ _ _ _ _ (c .before .before .before .before .before .before .before .before .loop .inv .0) (omega arith) (c .before .before .before .before .if2 .left) in
+    let e2 = c .before .before .before .before in
+    let l = e2 .before .before .before .before in
+    let a = l .loop .inv .0 .search .aligned in
+    let m = down-link _ _ _ _ _ _ (l .loop .inv .0) (omega arith) (e2 .if2 .left) in
     omega (arith, m .room)
 
 returns : tie.Need-returns Inv-loop μ-loop
 unfolding opened size
 returns c =
-    let a = c .before .before .before .before .before .before .before .before .before .loop .inv .0 .search .aligned in
-    let b = c .before .before .before .before .before .before .before .before .before .loop .inv .0 .search .inside in
-    let m = down-link _ _ _ _ _ _ (c .before .before .before .before .before .before .before .before .before .loop .inv .0) (omega arith) (c .before .before .before .before .before .if2 .left) in
-    let d = down-found _ _ _ _ _ _ (c .before .before .before .before .before .before .before .before .before .loop .inv .0) (omega arith) (omega arith) (c .before .before .before .before .before .if2 .left) (sym (c .before .before .before .before .candidate .ensures) ∙ c .before .before .before .if3 .taken) in
-    let l : round64 (c .before .before .u64-at .result) ≡ round64 _ = ap round64 (c .before .before .u64-at .ensures ∙ sym (m .length-is)) in
-    found-at _ _ _ _ _ _ _ _ (d .found) (sym (d .offset-is)) (omega (arith, d .offset-is, c .before .round-up .ensures, l)) (c .u64-at2 .ensures ∙ sym (m .id-is)) (sym (d .count)) (omega (arith, d .offset-is))
-
-loop-less-3 : tie.Need-loop-less-3 Inv-loop μ-loop
-loop-less-3 c = search needs
+    let ua = c .before .before in
+    let e2 = ua .before .before .before in
+    let l′ = e2 .before .before .before .before in
+    let a = l′ .loop .inv .0 .search .aligned in
+    let b = l′ .loop .inv .0 .search .inside in
+    let m = down-link _ _ _ _ _ _ (l′ .loop .inv .0) (omega arith) (e2 .if2 .left) in
+    let d = down-found _ _ _ _ _ _ (l′ .loop .inv .0) (omega arith) (omega arith) (e2 .if2 .left)
+    (sym (ua .before .before .candidate .ensures) ∙ ua .before .if3 .taken) in
+    let l : round64 (ua .u64-at .result) ≡ round64 _ = ap round64 (ua .u64-at .ensures ∙ sym (m .length-is)) in
+    found-at _ _ _ _ _ _ _ _ (d .found) (sym (d .offset-is))
+    (omega (arith, d .offset-is, c .before .round-up .ensures, l)) (c .u64-at2 .ensures ∙ sym (m .id-is))
+    (sym (d .count)) (omega (arith, d .offset-is))
 
 loop-again-3 : tie.Need-loop-again-3 Inv-loop μ-loop
 loop-again-3 c =
-    let a = c .before .before .before .before .before .before .loop .inv .0 .search .aligned in
-    let b = c .before .before .before .before .before .before .loop .inv .0 .search .inside in
-    (down-not _ _ _ _ _ _ (c .before .before .before .before .before .before .loop .inv .0) (omega arith) (omega arith) (c .before .before .if2 .left) bounded (sym (c .before .candidate .ensures) ∙ c .if3 .left), omega arith)
+    let l = c .before .before .before .before .before .before in
+    let a = l .loop .inv .0 .search .aligned in
+    let b = l .loop .inv .0 .search .inside in (
+      down-not _ _ _ _ _ _ (l .loop .inv .0) (omega arith) (omega arith) (c .before .before .if2 .left) bounded
+          (sym (c .before .candidate .ensures) ∙ c .if3 .left),
+      omega arith,
+    )
 
 returns-2 : tie.Need-returns-2 Inv-loop μ-loop
 unfolding opened
@@ -133,28 +137,7 @@ pub search-spec : {M : Type 1} → statement M
 search-spec =
     tie.close
     (tie.spec
-    Inv-loop
-    μ-loop
-    mul-p
-    loop-holds
-    add-tried
-    sub-p
-    loop-less
-    loop-again
-    sub-i
-    mul-if2
-    shared-slice-read-if2
-    loop-less-2
-    loop-again-2
-    candidate-requires
-    add-u64-at
-    u64-at-requires
-    add-t18
-    round-up-requires
-    add-t20
-    add-u64-at-2
-    u64-at-requires-2
-    returns
-    loop-less-3
-    loop-again-3
-    returns-2)
+    Inv-loop μ-loop (λ c. search needs) loop-holds (λ c. search needs) sub-p (λ c. search needs) loop-again
+    (λ c. search needs) mul-if2 shared-slice-read-if2 (λ c. search needs) loop-again-2 candidate-requires
+    add-u64-at u64-at-requires add-t18 round-up-requires add-t20 add-u64-at-2 u64-at-requires-2 returns
+    (λ c. search needs) loop-again-3 returns-2)

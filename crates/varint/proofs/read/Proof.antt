@@ -23,7 +23,8 @@ read-rest-requires : tie.Need-read-rest-requires
 read-rest-requires c κs = search needs
 
 returns-3 : tie.Need-returns-3
-returns-3 c = c .read-rest .ensures ∙ read-on (c .before .before .before .before .before .before .args .s .now) 0 _ (omega arith) (omega arith) (omega arith)
+returns-3 c = c .read-rest .ensures ∙ read-on (c .before .before .before .before .before .before .args .s .now) 0 _
+    (omega arith) (omega arith) (omega arith)
 
 pub read-spec : {M : Type 1} → statement M
 read-spec =

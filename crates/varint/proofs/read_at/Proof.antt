@@ -23,7 +23,8 @@ read-rest-requires : tie.Need-read-rest-requires
 read-rest-requires c κs = search needs
 
 returns-3 : tie.Need-returns-3
-returns-3 c = let a = c .before .before .before .before .before .before .args in c .read-rest .ensures ∙ read-on (a .s .now) (a .at) _ (omega arith) (omega arith) (omega arith)
+returns-3 c = let a = c .before .before .before .before .before .before .args in c .read-rest .ensures
+    ∙ read-on (a .s .now) (a .at) _ (omega arith) (omega arith) (omega arith)
 
 pub read-at-spec : {M : Type 1} → statement M
 read-at-spec =

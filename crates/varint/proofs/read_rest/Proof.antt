@@ -20,29 +20,19 @@ loop-holds : tie.Need-loop-holds Inv-loop μ-loop
 unfolding Left
 loop-holds c = (starts _ (c .before .pre .1), refl)
 
-sub-if1 : tie.Need-sub-if1 Inv-loop μ-loop
-sub-if1 c = search needs
-
 returns : tie.Need-returns Inv-loop μ-loop
 returns c =
     let l = c .before .before .loop in
     let a = c .before .before .before .before .args in
     left-none (a .s .now) (a .at) (l .i) (l .acc) (l .p) (l .inv .0 .few) (omega arith) ∙ l .inv .1
 
-add-wide : tie.Need-add-wide Inv-loop μ-loop
-add-wide c = search needs
-
-shared-slice-read-wide : tie.Need-shared-slice-read-wide Inv-loop μ-loop
-shared-slice-read-wide c = search needs
-
-wide-requires : tie.Need-wide-requires Inv-loop μ-loop
-wide-requires c κs = search needs
-
 returns-2 : tie.Need-returns-2 Inv-loop μ-loop
 returns-2 c =
-    let l = c .before .before .before .before .before .loop in
-    let a = c .before .before .before .before .before .before .before .args in
-    left-zero (a .s .now) (a .at) (l .i) (l .acc) (l .p) (l .inv .0 .few) (c .before .wide .result) (c .before .wide .ensures .0) (omega arith) (c .if2 .taken) ∙ l .inv .1
+    let l′ = c .before .before .before .before .before in
+    let l = l′ .loop in
+    let a = l′ .before .before .args in
+    left-zero (a .s .now) (a .at) (l .i) (l .acc) (l .p) (l .inv .0 .few) (c .before .wide .result)
+    (c .before .wide .ensures .0) (omega arith) (c .if2 .taken) ∙ l .inv .1
 
 mul-t14 : tie.Need-mul-t14 Inv-loop μ-loop
 mul-t14 c =
@@ -54,15 +44,14 @@ add-t15 c =
     let l = c .before .before .before .before .before .before .loop in
     omega (arith, stands-fits _ _ _ (c .before .before .wide .result) (l .inv .0) (omega arith) (omega arith) .0)
 
-add-t16 : tie.Need-add-t16 Inv-loop μ-loop
-add-t16 c = search needs
-
 returns-3 : tie.Need-returns-3 Inv-loop μ-loop
 returns-3 c =
-    let l = c .before .before .before .before .before .before .loop in
-    let a = c .before .before .before .before .before .before .before .before .args in
+    let l′ = c .before .before .before .before .before .before in
+    let l = l′ .loop in
+    let a = l′ .before .before .args in
     let b = c .before .before .wide in
-    left-value (a .s .now) (a .at) (l .i) (l .acc) (l .p) (l .inv .0 .few) (b .result) (b .ensures .0) (omega arith) (c .if3 .taken) (c .before .if2 .left)
+    left-value (a .s .now) (a .at) (l .i) (l .acc) (l .p) (l .inv .0 .few) (b .result) (b .ensures .0)
+    (omega arith) (c .if3 .taken) (c .before .if2 .left)
     (stands-fits _ _ _ (b .result) (l .inv .0) (omega arith) (omega arith) .0)
     ∙ l .inv .1
 
@@ -81,22 +70,17 @@ mul-p c =
     let l = c .before .before .before .before .before .before .loop in
     omega (arith, stands-fits _ _ _ (c .before .before .wide .result - 128) (l .inv .0) (omega arith) (omega arith) .1)
 
-add-i : tie.Need-add-i Inv-loop μ-loop
-add-i c = search needs
-
-loop-less : tie.Need-loop-less Inv-loop μ-loop
-loop-less c = search needs
-
 loop-again : tie.Need-loop-again Inv-loop μ-loop
 loop-again c =
-    let l = c .before .before .before .before .before .before .loop in
-    let a = c .before .before .before .before .before .before .before .before .args in
+    let l′ = c .before .before .before .before .before .before in
+    let l = l′ .loop in
+    let a = l′ .before .before .args in
     let b = c .before .before .wide in
-    let k : 128 ≤ getD (a .s .now) (a .at + l .i) 0 = omega arith in
-    (stands-next _ _ _ _ (l .inv .0) (omega arith) (omega arith) (c .if3 .left), rw (b .ensures .0) (sym (left-next (a .s .now) (a .at) (l .i) (l .acc) (l .p) (l .inv .0 .few) (omega arith) k) ∙ l .inv .1))
-
-sub-if4 : tie.Need-sub-if4 Inv-loop μ-loop
-sub-if4 c = search needs
+    let k : 128 ≤ getD (a .s .now) (a .at + l .i) 0 = omega arith in (
+      stands-next _ _ _ _ (l .inv .0) (omega arith) (omega arith) (c .if3 .left),
+      rw (b .ensures .0)
+          (sym (left-next (a .s .now) (a .at) (l .i) (l .acc) (l .p) (l .inv .0 .few) (omega arith) k) ∙ l .inv .1),
+    )
 
 returns-4 : tie.Need-returns-4 Inv-loop μ-loop
 returns-4 c =
@@ -104,15 +88,6 @@ returns-4 c =
     let a = c .before .before .before .before .args in
     let few = l .inv .0 .few in
     left-none (a .s .now) (a .at) (l .i) (l .acc) (l .p) few (omega arith) ∙ l .inv .1
-
-add-wide-2 : tie.Need-add-wide-2 Inv-loop μ-loop
-add-wide-2 c = search needs
-
-shared-slice-read-wide-2 : tie.Need-shared-slice-read-wide-2 Inv-loop μ-loop
-shared-slice-read-wide-2 c = search needs
-
-wide-requires-2 : tie.Need-wide-requires-2 Inv-loop μ-loop
-wide-requires-2 c κs = search needs
 
 add-t24 : tie.Need-add-t24 Inv-loop μ-loop
 add-t24 c =
@@ -125,8 +100,9 @@ add-t24 c =
 
 returns-5 : tie.Need-returns-5 Inv-loop μ-loop
 returns-5 c =
-    let l = c .before .before .before .before .before .loop in
-    let a = c .before .before .before .before .before .before .before .args in
+    let l′ = c .before .before .before .before .before in
+    let l = l′ .loop in
+    let a = l′ .before .before .args in
     let few = l .inv .0 .few in
     let nine : l .i ≡ 9 = omega arith in
     let b = c .before .wide2 in
@@ -136,8 +112,9 @@ returns-5 c =
 
 returns-6 : tie.Need-returns-6 Inv-loop μ-loop
 returns-6 c =
-    let l = c .before .before .before .before .before .loop in
-    let a = c .before .before .before .before .before .before .before .args in
+    let l′ = c .before .before .before .before .before in
+    let l = l′ .loop in
+    let a = l′ .before .before .args in
     let few = l .inv .0 .few in
     let nine : l .i ≡ 9 = omega arith in
     let b = c .before .wide2 in
@@ -149,30 +126,7 @@ pub read-rest-spec : {M : Type 1} → statement M
 read-rest-spec =
     tie.close
     (tie.spec
-    Inv-loop
-    μ-loop
-    loop-holds
-    sub-if1
-    returns
-    add-wide
-    shared-slice-read-wide
-    wide-requires
-    returns-2
-    mul-t14
-    add-t15
-    add-t16
-    returns-3
-    mul-acc
-    add-acc
-    mul-p
-    add-i
-    loop-less
-    loop-again
-    sub-if4
-    returns-4
-    add-wide-2
-    shared-slice-read-wide-2
-    wide-requires-2
-    add-t24
-    returns-5
-    returns-6)
+    Inv-loop μ-loop loop-holds (λ c. search needs) returns (λ c. search needs) (λ c. search needs)
+    (λ c κs. search needs) returns-2 mul-t14 add-t15 (λ c. search needs) returns-3 mul-acc add-acc mul-p
+    (λ c. search needs) (λ c. search needs) loop-again (λ c. search needs) returns-4 (λ c. search needs)
+    (λ c. search needs) (λ c κs. search needs) add-t24 returns-5 returns-6)

@@ -18,15 +18,14 @@ abbrev start : tie.Else1 → tie.Start
 start c = c .before .before .before .before .before
 
 good : (c : tie.Else1)
-    → Accepted (start c .args .ids .now) (start c .args .columns .now) (start c .args .dim) (start c .args .dtype) (start c .args .tier) (start c .args .encoding) (start c .args .interval)
+    → Accepted (start c .args .ids .now) (start c .args .columns .now) (start c .args .dim) (start c .args .dtype)
+    (start c .args .tier) (start c .args .encoding) (start c .args .interval)
 good c = accepted _ _ _ _ _ _ _ (sym (c .before .refusal .ensures) ∙ c .if1 .left)
 
 size : (c : tie.After-round-up)
-    → (let a = start (c .before .before) .args in 64 + c .round-up .result ≡ length (vecBytes (a .ids .now) (a .columns .now) (a .dim) (a .dtype) (a .tier) (a .encoding) (a .interval)))
+    → (let a = start (c .before .before) .args in 64 + c .round-up .result ≡ length
+    (vecBytes (a .ids .now) (a .columns .now) (a .dim) (a .dtype) (a .tier) (a .encoding) (a .interval)))
 size c = payload-size _ _ _ _ _ _ _ _ _ (c .before .encoded-len .ensures .0) (c .round-up .ensures)
-
-refusal-requires : tie.Need-refusal-requires
-refusal-requires c κs = search needs
 
 returns : tie.Need-returns
 returns c = write-bad _ _ _ _ (sym (c .before .refusal .ensures)) (omega arith)
@@ -34,44 +33,24 @@ returns c = write-bad _ _ _ _ (sym (c .before .refusal .ensures)) (omega arith)
 encoded-len-requires : tie.Need-encoded-len-requires
 encoded-len-requires c κs = good c .map
 
-add-end : tie.Need-add-end
-add-end c = search needs
-
-add-round-up : tie.Need-add-round-up
-add-round-up c = search needs
-
-round-up-requires : tie.Need-round-up-requires
-round-up-requires c κs = search needs
-
 add-n : tie.Need-add-n
 add-n c = omega (arith, round64-lt (length (start (c .before .before) .args .columns .now) + c .before .encoded-len .result + 4))
 
 returns-2 : tie.Need-returns-2
 returns-2 c =
+    let e1 = c .before .before .before in
     let n = size (c .before) in
-    write-short _ _ _ (sym (c .before .before .before .before .refusal .ensures) ∙ c .before .before .before .if1 .left) (omega arith)
+    write-short _ _ _ (sym (e1 .before .refusal .ensures) ∙ e1 .if1 .left) (omega arith)
 
 put-directory-requires : tie.Need-put-directory-requires
 put-directory-requires c κs =
     let g = good (c .before .before .before .before) in
     (omega arith, (held-small _ (g .held), g .byte))
 
-sub-put-block : tie.Need-sub-put-block
-sub-put-block c = search needs
-
-part-put-block-start : tie.Need-part-put-block-start
-part-put-block-start c = search needs
-
-part-put-block-end : tie.Need-part-put-block-end
-part-put-block-end c = search needs
-
 put-block-requires : tie.Need-put-block-requires
 put-block-requires c κs =
     let p = c .before .before .before .before in
     (good (p .before .before .before .before) .map, (omega arith, omega arith))
-
-same-length : tie.Need-same-length
-same-length c = search needs
 
 returns-3 : tie.Need-returns-3
 returns-3 c =
@@ -80,24 +59,13 @@ returns-3 c =
     let s = r .before .before in
     let n = size r in
     write-done _ _ _ _ _ (sym (s .before .refusal .ensures) ∙ s .if1 .left) (omega arith) n
-    (payload-laid (start s .args .buf .now) _ _ _ _ _ _ _ _ _ _ (omega arith) (omega arith) (p .put-directory .ensures) (c .before .before .put-block .ensures))
+    (payload-laid (start s .args .buf .now) _ _ _ _ _ _ _ _ _ _ (omega arith) (omega arith)
+    (p .put-directory .ensures) (c .before .before .put-block .ensures))
 
 pub write-spec : {M : Type 1} → statement M
 write-spec =
     tie.close
     (tie.spec
-    refusal-requires
-    returns
-    encoded-len-requires
-    add-end
-    add-round-up
-    round-up-requires
-    add-n
-    returns-2
-    put-directory-requires
-    sub-put-block
-    part-put-block-start
-    part-put-block-end
-    put-block-requires
-    same-length
-    returns-3)
+    (λ c κs. search needs) returns encoded-len-requires (λ c. search needs) (λ c. search needs)
+    (λ c κs. search needs) add-n returns-2 put-directory-requires (λ c. search needs) (λ c. search needs)
+    (λ c. search needs) put-block-requires (λ c. search needs) returns-3)

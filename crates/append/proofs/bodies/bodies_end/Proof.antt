@@ -1,6 +1,8 @@
 -- `append_write::bodies_end` meets its contract, by where the loop over the bodies stands.
 -- Assumes nothing.
-use Prim.Native.Nat.{_-_}
+use lib.ListN.{length}
+use Rattle.batch.specs.Lines.{BodyAt}
+use Prim.Native.Nat.{_-_, _<_}
 use mathlib.Core.Path.{sym, ap, _∙_}
 use native.Mathlib.Omega.{arith}
 use Rattle.octets.specs.Round.{round64}
@@ -23,114 +25,70 @@ u32-at-requires c κs =
     let q = held-bounds (c .before .args .batch .now) (c .before .pre .0) in
     omega arith
 
-cast-m : tie.Need-cast-m Inv-loop μ-loop
-cast-m c = search needs
-
 loop-holds : tie.Need-loop-holds Inv-loop μ-loop
 loop-holds c = end-first _ _
 
+-- In the loop: the body `j` is one of the batch's, which are few, and its line lies in the batch.
+module _ (b : tie.In-loop Inv-loop μ-loop) where
+  abbrev s : tie.Start Inv-loop μ-loop
+  s = b .before .before .before .before
+
+  more : b .before .loop .j < length (bodiesOf (s .args .batch .now))
+  more =
+      let u = b .before .before .u32-at in
+      omega (arith, bodies-count (s .args .batch .now), count-is (s .args .batch .now) (u .result) (u .ensures))
+
+  few : b .before .loop .j < 16
+  few = omega (arith, more, bodies-count (s .args .batch .now), held-bounds (s .args .batch .now) (s .pre .0))
+
+  line : BodyAt (s .args .batch .now) (b .before .loop .j)
+  line = body-at (s .args .batch .now) (s .pre .0) (b .before .loop .j) (omega (arith, more, bodies-count (s .args .batch .now)))
+
 mul-u32-at : tie.Need-mul-u32-at Inv-loop μ-loop
-mul-u32-at c =
-    let n = bodies-count (c .before .before .before .before .args .batch .now) in
-    let k = count-is (c .before .before .before .before .args .batch .now) (c .before .before .u32-at .result) (c .before .before .u32-at .ensures) in
-    let q = held-bounds (c .before .before .before .before .args .batch .now) (c .before .before .before .before .pre .0) in
-    let a = body-at (c .before .before .before .before .args .batch .now) (c .before .before .before .before .pre .0) (c .before .loop .j) (omega arith) in
-    omega (arith, a .line-room)
+mul-u32-at c = omega (arith, line c .line-room)
 
 add-u32-at : tie.Need-add-u32-at Inv-loop μ-loop
-add-u32-at c =
-    let n = bodies-count (c .before .before .before .before .args .batch .now) in
-    let k = count-is (c .before .before .before .before .args .batch .now) (c .before .before .u32-at .result) (c .before .before .u32-at .ensures) in
-    let q = held-bounds (c .before .before .before .before .args .batch .now) (c .before .before .before .before .pre .0) in
-    let a = body-at (c .before .before .before .before .args .batch .now) (c .before .before .before .before .pre .0) (c .before .loop .j) (omega arith) in
-    omega (arith, a .line-room)
+add-u32-at c = omega (arith, line c .line-room)
 
 add-u32-at-2 : tie.Need-add-u32-at-2 Inv-loop μ-loop
-add-u32-at-2 c =
-    let n = bodies-count (c .before .before .before .before .args .batch .now) in
-    let k = count-is (c .before .before .before .before .args .batch .now) (c .before .before .u32-at .result) (c .before .before .u32-at .ensures) in
-    let q = held-bounds (c .before .before .before .before .args .batch .now) (c .before .before .before .before .pre .0) in
-    let a = body-at (c .before .before .before .before .args .batch .now) (c .before .before .before .before .pre .0) (c .before .loop .j) (omega arith) in
-    omega (arith, a .line-room)
+add-u32-at-2 c = omega (arith, line c .line-room)
 
 u32-at-requires-2 : tie.Need-u32-at-requires-2 Inv-loop μ-loop
-u32-at-requires-2 c κs =
-    let n = bodies-count (c .before .before .before .before .args .batch .now) in
-    let k = count-is (c .before .before .before .before .args .batch .now) (c .before .before .u32-at .result) (c .before .before .u32-at .ensures) in
-    let q = held-bounds (c .before .before .before .before .args .batch .now) (c .before .before .before .before .pre .0) in
-    let a = body-at (c .before .before .before .before .args .batch .now) (c .before .before .before .before .pre .0) (c .before .loop .j) (omega arith) in
-    omega (arith, a .line-room)
-
-cast-length : tie.Need-cast-length Inv-loop μ-loop
-cast-length c = search needs
-
-round-up-requires : tie.Need-round-up-requires Inv-loop μ-loop
-round-up-requires c κs = search needs
+u32-at-requires-2 c κs = omega (arith, line c .line-room)
 
 add-at : tie.Need-add-at Inv-loop μ-loop
 add-at c =
-    let n = bodies-count (c .before .before .before .before .before .before .args .batch .now) in
-    let k = count-is (c .before .before .before .before .before .before .args .batch .now) (c .before .before .before .before .u32-at .result) (c .before .before .before .before .u32-at .ensures) in
-    let q = held-bounds (c .before .before .before .before .before .before .args .batch .now) (c .before .before .before .before .before .before .pre .0) in
-    let a = body-at (c .before .before .before .before .before .before .args .batch .now) (c .before .before .before .before .before .before .pre .0) (c .before .before .before .loop .j) (omega arith) in
-    let l = round64-lt (c .before .u32-at2 .result) in
-    omega (arith, c .before .before .before .loop .inv .small, c .round-up .ensures, c .before .before .before .before .before .before .pre .1)
+    let b = c .before .before in
+    omega (arith, few b, round64-lt (c .before .u32-at2 .result), b .before .loop .inv .small, c .round-up .ensures, s b .pre .1)
 
 add-at-2 : tie.Need-add-at-2 Inv-loop μ-loop
 add-at-2 c =
-    let n = bodies-count (c .before .before .before .before .before .before .args .batch .now) in
-    let k = count-is (c .before .before .before .before .before .before .args .batch .now) (c .before .before .before .before .u32-at .result) (c .before .before .before .before .u32-at .ensures) in
-    let q = held-bounds (c .before .before .before .before .before .before .args .batch .now) (c .before .before .before .before .before .before .pre .0) in
-    let a = body-at (c .before .before .before .before .before .before .args .batch .now) (c .before .before .before .before .before .before .pre .0) (c .before .before .before .loop .j) (omega arith) in
-    let l = round64-lt (c .before .u32-at2 .result) in
-    omega (arith, c .before .before .before .loop .inv .small, c .round-up .ensures, c .before .before .before .before .before .before .pre .1)
+    let b = c .before .before in
+    omega (arith, few b, round64-lt (c .before .u32-at2 .result), b .before .loop .inv .small, c .round-up .ensures, s b .pre .1)
 
 add-j : tie.Need-add-j Inv-loop μ-loop
-add-j c =
-    let n = bodies-count (c .before .before .before .before .before .before .args .batch .now) in
-    let k = count-is (c .before .before .before .before .before .before .args .batch .now) (c .before .before .before .before .u32-at .result) (c .before .before .before .before .u32-at .ensures) in
-    let q = held-bounds (c .before .before .before .before .before .before .args .batch .now) (c .before .before .before .before .before .before .pre .0) in
-    let a = body-at (c .before .before .before .before .before .before .args .batch .now) (c .before .before .before .before .before .before .pre .0) (c .before .before .before .loop .j) (omega arith) in
-    omega arith
-
-loop-less : tie.Need-loop-less Inv-loop μ-loop
-loop-less c = search needs
+add-j c = omega (arith, few (c .before .before))
 
 loop-again : tie.Need-loop-again Inv-loop μ-loop
 loop-again c =
-    let n = bodies-count (c .before .before .before .before .before .before .args .batch .now) in
-    let k = count-is (c .before .before .before .before .before .before .args .batch .now) (c .before .before .before .before .u32-at .result) (c .before .before .before .before .u32-at .ensures) in
-    let q = held-bounds (c .before .before .before .before .before .before .args .batch .now) (c .before .before .before .before .before .before .pre .0) in
-    let a = body-at (c .before .before .before .before .before .before .args .batch .now) (c .before .before .before .before .before .before .pre .0) (c .before .before .before .loop .j) (omega arith) in
-    let l = round64-lt (c .before .u32-at2 .result) in
-    let p = a .payload-length ∙ sym (c .before .u32-at2 .ensures) in
-    end-next _ _ _ _ noBody (c .before .before .before .loop .inv) (omega arith) (omega (arith, p)) _ (c .round-up .ensures ∙ ap round64 (sym p)) (omega (arith, p, c .round-up .ensures))
+    let b = c .before .before in
+    let p = line b .payload-length ∙ sym (c .before .u32-at2 .ensures) in
+    end-next _ _ _ _ noBody (b .before .loop .inv) (more b) (omega (arith, p)) _ (c .round-up .ensures ∙ ap round64 (sym p))
+    (omega (arith, p, c .round-up .ensures, round64-lt (c .before .u32-at2 .result)))
 
 returns : tie.Need-returns Inv-loop μ-loop
 returns c =
-    let n = bodies-count (c .before .before .before .before .args .batch .now) in
-    let k = count-is (c .before .before .before .before .args .batch .now) (c .before .before .u32-at .result) (c .before .before .u32-at .ensures) in
-    let q = held-bounds (c .before .before .before .before .args .batch .now) (c .before .before .before .before .pre .0) in
+    let ua = c .before .before in
+    let batch = ua .before .before .args .batch .now in
+    let n = bodies-count batch in
+    let k = count-is batch (ua .u32-at .result) (ua .u32-at .ensures) in
+    let q = held-bounds batch (ua .before .before .pre .0) in
     end-last _ _ _ _ (c .before .loop .inv) (omega arith)
 
 pub bodies-end-spec : {M : Type 1} → statement M
 bodies-end-spec =
     tie.close
     (tie.spec
-    Inv-loop
-    μ-loop
-    u32-at-requires
-    cast-m
-    loop-holds
-    mul-u32-at
-    add-u32-at
-    add-u32-at-2
-    u32-at-requires-2
-    cast-length
-    round-up-requires
-    add-at
-    add-at-2
-    add-j
-    loop-less
-    loop-again
-    returns)
+    Inv-loop μ-loop u32-at-requires (λ c. search needs) loop-holds mul-u32-at add-u32-at add-u32-at-2
+    u32-at-requires-2 (λ c. search needs) (λ c κs. search needs) add-at add-at-2 add-j (λ c. search needs)
+    loop-again returns)

@@ -1,6 +1,6 @@
 -- `append_write::put_bodies` meets its contract, by where the loop over the bodies stands.
 -- Assumes nothing.
-use Prim.Native.Nat.{_+_, _-_}
+use Prim.Native.Nat.{_+_, _-_, _*_, _≤_, _<_}
 use mathlib.Core.Path.{_≡_, refl, ap, _∙_}
 use native.Mathlib.Omega.{arith}
 use lib.ListN.{length, take, drop, length-take, length-drop}
@@ -15,301 +15,187 @@ use Rattle.append.proofs.bodies.put_bodies.Statement.{statement}
 use Rattle.append.proofs.bodies.put_bodies.Tie as tie
 
 abbrev Inv-loop : tie.InvT-loop
-Inv-loop buf₀ batch start first-id timestamp offsets₀ kept m at₀ j₀ buf offsets at j = BodiesPut (bodiesOf batch) start first-id timestamp kept buf₀ buf offsets₀ offsets at j
+Inv-loop buf₀ batch start first-id timestamp offsets₀ kept m at₀ j₀ buf offsets at j =
+    BodiesPut (bodiesOf batch) start first-id timestamp kept buf₀ buf offsets₀ offsets at j
 
 abbrev μ-loop : tie.MeasureT-loop
 μ-loop buf₀ batch start first-id timestamp offsets₀ kept m at₀ j₀ buf offsets at j = m - j
 
+-- In the loop: the body `j` is one of the batch's, and its line lies in the batch.
+module _ (b : tie.In-loop Inv-loop μ-loop) where
+  abbrev l : tie.At-loop Inv-loop μ-loop
+  l = b .before
+
+  abbrev s : tie.Start Inv-loop μ-loop
+  s = l .before .before .before .before .before
+
+  more : l .loop .j < length (bodiesOf (s .args .batch .now))
+  more =
+      let u = l .before .u32-at in
+      omega (arith, bodies-count (s .args .batch .now), count-is (s .args .batch .now) (u .result) (u .ensures))
+
+  line-room : 16 + 16 * l .loop .j + 16 ≤ length (s .args .batch .now)
+  line-room = body-at (s .args .batch .now) (s .pre .0 .0) (l .loop .j) (omega (arith, more, bodies-count (s .args .batch .now))) .line-room
+
+  at-room : l .loop .at ≤ length (l .loop .buf)
+  at-room = omega (arith, put-room _ _ _ _ _ _ _ _ _ _ _ (l .loop .inv) more noBody (s .pre .0 .1))
+
+-- Where the line is read: the body lies in the batch.
+inside : (t : tie.After-u32-at3 Inv-loop μ-loop) → t .before .u32-at2 .result + t .u32-at3 .result
+    ≤ length (s (t .before .before .before .before) .args .batch .now)
+inside t =
+    let ua2 = t .before in
+    let b = ua2 .before .before .before in
+    let batch = s b .args .batch .now in
+    let a = body-at batch (s b .pre .0 .0) (l b .loop .j) (omega (arith, more b, bodies-count batch)) in
+    body-inside batch (l b .loop .j) a (ua2 .u32-at2 .result) (t .u32-at3 .result) (ua2 .u32-at2 .ensures) (t .u32-at3 .ensures)
+
 u32-at-requires : tie.Need-u32-at-requires Inv-loop μ-loop
 u32-at-requires c κs =
-    let q = held-bounds (c .before .before .before .args .batch .now) (c .before .before .before .pre .0 .0) in
-    omega arith
-
-cast-m : tie.Need-cast-m Inv-loop μ-loop
-cast-m c = search needs
+    let s = c .before .before .before in
+    omega (arith, held-bounds (s .args .batch .now) (s .pre .0 .0))
 
 loop-holds : tie.Need-loop-holds Inv-loop μ-loop
 loop-holds c = put-first _ _ _ _ _ _ _
 
 mul-line : tie.Need-mul-line Inv-loop μ-loop
-mul-line c =
-    let n = bodies-count (c .before .before .before .before .before .before .args .batch .now) in
-    let k = count-is (c .before .before .before .before .before .before .args .batch .now) (c .before .before .u32-at .result) (c .before .before .u32-at .ensures) in
-    let q = held-bounds (c .before .before .before .before .before .before .args .batch .now) (c .before .before .before .before .before .before .pre .0 .0) in
-    let st = c .before .loop .inv in
-    let a = body-at (c .before .before .before .before .before .before .args .batch .now) (c .before .before .before .before .before .before .pre .0 .0) (c .before .loop .j) (omega arith) in
-    omega (arith, a .line-room)
+mul-line c = omega (arith, line-room c)
 
 add-line : tie.Need-add-line Inv-loop μ-loop
-add-line c =
-    let n = bodies-count (c .before .before .before .before .before .before .args .batch .now) in
-    let k = count-is (c .before .before .before .before .before .before .args .batch .now) (c .before .before .u32-at .result) (c .before .before .u32-at .ensures) in
-    let q = held-bounds (c .before .before .before .before .before .before .args .batch .now) (c .before .before .before .before .before .before .pre .0 .0) in
-    let st = c .before .loop .inv in
-    let a = body-at (c .before .before .before .before .before .before .args .batch .now) (c .before .before .before .before .before .before .pre .0 .0) (c .before .loop .j) (omega arith) in
-    omega (arith, a .line-room)
+add-line c = omega (arith, line-room c)
 
 shared-slice-read-kind : tie.Need-shared-slice-read-kind Inv-loop μ-loop
-shared-slice-read-kind c =
-    let n = bodies-count (c .before .before .before .before .before .before .before .args .batch .now) in
-    let k = count-is (c .before .before .before .before .before .before .before .args .batch .now) (c .before .before .before .u32-at .result) (c .before .before .before .u32-at .ensures) in
-    let q = held-bounds (c .before .before .before .before .before .before .before .args .batch .now) (c .before .before .before .before .before .before .before .pre .0 .0) in
-    let st = c .before .before .loop .inv in
-    let a = body-at (c .before .before .before .before .before .before .before .args .batch .now) (c .before .before .before .before .before .before .before .pre .0 .0) (c .before .before .loop .j) (omega arith) in
-    omega (arith, a .line-room)
+shared-slice-read-kind c = omega (arith, line-room (c .before))
 
 add-u16-at : tie.Need-add-u16-at Inv-loop μ-loop
-add-u16-at c =
-    let n = bodies-count (c .before .before .before .before .before .before .before .args .batch .now) in
-    let k = count-is (c .before .before .before .before .before .before .before .args .batch .now) (c .before .before .before .u32-at .result) (c .before .before .before .u32-at .ensures) in
-    let q = held-bounds (c .before .before .before .before .before .before .before .args .batch .now) (c .before .before .before .before .before .before .before .pre .0 .0) in
-    let st = c .before .before .loop .inv in
-    let a = body-at (c .before .before .before .before .before .before .before .args .batch .now) (c .before .before .before .before .before .before .before .pre .0 .0) (c .before .before .loop .j) (omega arith) in
-    omega (arith, a .line-room)
+add-u16-at c = omega (arith, line-room (c .before))
 
 u16-at-requires : tie.Need-u16-at-requires Inv-loop μ-loop
-u16-at-requires c κs =
-    let n = bodies-count (c .before .before .before .before .before .before .before .args .batch .now) in
-    let k = count-is (c .before .before .before .before .before .before .before .args .batch .now) (c .before .before .before .u32-at .result) (c .before .before .before .u32-at .ensures) in
-    let q = held-bounds (c .before .before .before .before .before .before .before .args .batch .now) (c .before .before .before .before .before .before .before .pre .0 .0) in
-    let st = c .before .before .loop .inv in
-    let a = body-at (c .before .before .before .before .before .before .before .args .batch .now) (c .before .before .before .before .before .before .before .pre .0 .0) (c .before .before .loop .j) (omega arith) in
-    omega (arith, a .line-room)
+u16-at-requires c κs = omega (arith, line-room (c .before))
 
 add-u32-at : tie.Need-add-u32-at Inv-loop μ-loop
-add-u32-at c =
-    let n = bodies-count (c .before .before .before .before .before .before .before .before .args .batch .now) in
-    let k = count-is (c .before .before .before .before .before .before .before .before .args .batch .now) (c .before .before .before .before .u32-at .result) (c .before .before .before .before .u32-at .ensures) in
-    let q = held-bounds (c .before .before .before .before .before .before .before .before .args .batch .now) (c .before .before .before .before .before .before .before .before .pre .0 .0) in
-    let st = c .before .before .before .loop .inv in
-    let a = body-at (c .before .before .before .before .before .before .before .before .args .batch .now) (c .before .before .before .before .before .before .before .before .pre .0 .0) (c .before .before .before .loop .j) (omega arith) in
-    omega (arith, a .line-room)
+add-u32-at c = omega (arith, line-room (c .before .before))
 
 u32-at-requires-2 : tie.Need-u32-at-requires-2 Inv-loop μ-loop
-u32-at-requires-2 c κs =
-    let n = bodies-count (c .before .before .before .before .before .before .before .before .args .batch .now) in
-    let k = count-is (c .before .before .before .before .before .before .before .before .args .batch .now) (c .before .before .before .before .u32-at .result) (c .before .before .before .before .u32-at .ensures) in
-    let q = held-bounds (c .before .before .before .before .before .before .before .before .args .batch .now) (c .before .before .before .before .before .before .before .before .pre .0 .0) in
-    let st = c .before .before .before .loop .inv in
-    let a = body-at (c .before .before .before .before .before .before .before .before .args .batch .now) (c .before .before .before .before .before .before .before .before .pre .0 .0) (c .before .before .before .loop .j) (omega arith) in
-    omega (arith, a .line-room)
-
-cast-from : tie.Need-cast-from Inv-loop μ-loop
-cast-from c = search needs
+u32-at-requires-2 c κs = omega (arith, line-room (c .before .before))
 
 add-u32-at-2 : tie.Need-add-u32-at-2 Inv-loop μ-loop
-add-u32-at-2 c =
-    let n = bodies-count (c .before .before .before .before .before .before .before .before .before .args .batch .now) in
-    let k = count-is (c .before .before .before .before .before .before .before .before .before .args .batch .now) (c .before .before .before .before .before .u32-at .result) (c .before .before .before .before .before .u32-at .ensures) in
-    let q = held-bounds (c .before .before .before .before .before .before .before .before .before .args .batch .now) (c .before .before .before .before .before .before .before .before .before .pre .0 .0) in
-    let st = c .before .before .before .before .loop .inv in
-    let a = body-at (c .before .before .before .before .before .before .before .before .before .args .batch .now) (c .before .before .before .before .before .before .before .before .before .pre .0 .0) (c .before .before .before .before .loop .j) (omega arith) in
-    omega (arith, a .line-room)
+add-u32-at-2 c = omega (arith, line-room (c .before .before .before))
 
 u32-at-requires-3 : tie.Need-u32-at-requires-3 Inv-loop μ-loop
-u32-at-requires-3 c κs =
-    let n = bodies-count (c .before .before .before .before .before .before .before .before .before .args .batch .now) in
-    let k = count-is (c .before .before .before .before .before .before .before .before .before .args .batch .now) (c .before .before .before .before .before .u32-at .result) (c .before .before .before .before .before .u32-at .ensures) in
-    let q = held-bounds (c .before .before .before .before .before .before .before .before .before .args .batch .now) (c .before .before .before .before .before .before .before .before .before .pre .0 .0) in
-    let st = c .before .before .before .before .loop .inv in
-    let a = body-at (c .before .before .before .before .before .before .before .before .before .args .batch .now) (c .before .before .before .before .before .before .before .before .before .pre .0 .0) (c .before .before .before .before .loop .j) (omega arith) in
-    omega (arith, a .line-room)
-
-cast-to : tie.Need-cast-to Inv-loop μ-loop
-cast-to c = search needs
+u32-at-requires-3 c κs = omega (arith, line-room (c .before .before .before))
 
 add-to : tie.Need-add-to Inv-loop μ-loop
-add-to c =
-    let n = bodies-count (c .before .before .before .before .before .before .before .before .before .before .args .batch .now) in
-    let k = count-is (c .before .before .before .before .before .before .before .before .before .before .args .batch .now) (c .before .before .before .before .before .before .u32-at .result) (c .before .before .before .before .before .before .u32-at .ensures) in
-    let q = held-bounds (c .before .before .before .before .before .before .before .before .before .before .args .batch .now) (c .before .before .before .before .before .before .before .before .before .before .pre .0 .0) in
-    let st = c .before .before .before .before .before .loop .inv in
-    let a = body-at (c .before .before .before .before .before .before .before .before .before .before .args .batch .now) (c .before .before .before .before .before .before .before .before .before .before .pre .0 .0) (c .before .before .before .before .before .loop .j) (omega arith) in
-    omega (arith, body-inside (c .before .before .before .before .before .before .before .before .before .before .args .batch .now) (c .before .before .before .before .before .loop .j) a (c .before .u32-at2 .result) (c .u32-at3 .result) (c .before .u32-at2 .ensures) (c .u32-at3 .ensures))
+add-to c = omega (arith, inside c)
 
 add-offsets : tie.Need-add-offsets Inv-loop μ-loop
 add-offsets c =
-    let n = bodies-count (c .before .before .before .before .before .before .before .before .before .before .args .batch .now) in
-    let k = count-is (c .before .before .before .before .before .before .before .before .before .before .args .batch .now) (c .before .before .before .before .before .before .u32-at .result) (c .before .before .before .before .before .before .u32-at .ensures) in
-    let q = held-bounds (c .before .before .before .before .before .before .before .before .before .before .args .batch .now) (c .before .before .before .before .before .before .before .before .before .before .pre .0 .0) in
-    let st = c .before .before .before .before .before .loop .inv in
-    let a = body-at (c .before .before .before .before .before .before .before .before .before .before .args .batch .now) (c .before .before .before .before .before .before .before .before .before .before .pre .0 .0) (c .before .before .before .before .before .loop .j) (omega arith) in
-    omega (arith, st .many, c .before .before .before .before .before .before .before .before .before .before .pre .1 .1)
+    let b = c .before .before .before .before in
+    omega (arith, more b, bodies-count (s b .args .batch .now), l b .loop .inv .many, s b .pre .1 .1)
 
 mul-offsets : tie.Need-mul-offsets Inv-loop μ-loop
 mul-offsets c =
-    let n = bodies-count (c .before .before .before .before .before .before .before .before .before .before .args .batch .now) in
-    let k = count-is (c .before .before .before .before .before .before .before .before .before .before .args .batch .now) (c .before .before .before .before .before .before .u32-at .result) (c .before .before .before .before .before .before .u32-at .ensures) in
-    let q = held-bounds (c .before .before .before .before .before .before .before .before .before .before .args .batch .now) (c .before .before .before .before .before .before .before .before .before .before .pre .0 .0) in
-    let st = c .before .before .before .before .before .loop .inv in
-    let a = body-at (c .before .before .before .before .before .before .before .before .before .before .args .batch .now) (c .before .before .before .before .before .before .before .before .before .before .pre .0 .0) (c .before .before .before .before .before .loop .j) (omega arith) in
-    omega (arith, st .many, c .before .before .before .before .before .before .before .before .before .before .pre .1 .1)
+    let b = c .before .before .before .before in
+    omega (arith, more b, bodies-count (s b .args .batch .now), l b .loop .inv .many, s b .pre .1 .1)
 
 slice-write-offsets : tie.Need-slice-write-offsets Inv-loop μ-loop
 slice-write-offsets c =
-    let n = bodies-count (c .before .before .before .before .before .before .before .before .before .before .args .batch .now) in
-    let k = count-is (c .before .before .before .before .before .before .before .before .before .before .args .batch .now) (c .before .before .before .before .before .before .u32-at .result) (c .before .before .before .before .before .before .u32-at .ensures) in
-    let q = held-bounds (c .before .before .before .before .before .before .before .before .before .before .args .batch .now) (c .before .before .before .before .before .before .before .before .before .before .pre .0 .0) in
-    let st = c .before .before .before .before .before .loop .inv in
-    let a = body-at (c .before .before .before .before .before .before .before .before .before .before .args .batch .now) (c .before .before .before .before .before .before .before .before .before .before .pre .0 .0) (c .before .before .before .before .before .loop .j) (omega arith) in
-    omega (arith, st .many, c .before .before .before .before .before .before .before .before .before .before .pre .1 .1)
+    let b = c .before .before .before .before in
+    omega (arith, more b, bodies-count (s b .args .batch .now), l b .loop .inv .many, s b .pre .1 .1)
 
 sub-put-segment : tie.Need-sub-put-segment Inv-loop μ-loop
-sub-put-segment c =
-    let n = bodies-count (c .before .before .before .before .before .before .before .before .before .before .args .batch .now) in
-    let k = count-is (c .before .before .before .before .before .before .before .before .before .before .args .batch .now) (c .before .before .before .before .before .before .u32-at .result) (c .before .before .before .before .before .before .u32-at .ensures) in
-    let q = held-bounds (c .before .before .before .before .before .before .before .before .before .before .args .batch .now) (c .before .before .before .before .before .before .before .before .before .before .pre .0 .0) in
-    let st = c .before .before .before .before .before .loop .inv in
-    let a = body-at (c .before .before .before .before .before .before .before .before .before .before .args .batch .now) (c .before .before .before .before .before .before .before .before .before .before .pre .0 .0) (c .before .before .before .before .before .loop .j) (omega arith) in
-    let r = put-room _ _ _ _ _ _ _ _ _ _ _ st (omega arith) noBody (c .before .before .before .before .before .before .before .before .before .before .pre .0 .1) in
-    omega arith
+sub-put-segment c = omega (arith, at-room (c .before .before .before .before))
 
 part-put-segment-start : tie.Need-part-put-segment-start Inv-loop μ-loop
-part-put-segment-start c =
-    let n = bodies-count (c .before .before .before .before .before .before .before .before .before .before .args .batch .now) in
-    let k = count-is (c .before .before .before .before .before .before .before .before .before .before .args .batch .now) (c .before .before .before .before .before .before .u32-at .result) (c .before .before .before .before .before .before .u32-at .ensures) in
-    let q = held-bounds (c .before .before .before .before .before .before .before .before .before .before .args .batch .now) (c .before .before .before .before .before .before .before .before .before .before .pre .0 .0) in
-    let st = c .before .before .before .before .before .loop .inv in
-    let a = body-at (c .before .before .before .before .before .before .before .before .before .before .args .batch .now) (c .before .before .before .before .before .before .before .before .before .before .pre .0 .0) (c .before .before .before .before .before .loop .j) (omega arith) in
-    let r = put-room _ _ _ _ _ _ _ _ _ _ _ st (omega arith) noBody (c .before .before .before .before .before .before .before .before .before .before .pre .0 .1) in
-    omega arith
+part-put-segment-start c = omega (arith, at-room (c .before .before .before .before))
 
 part-put-segment-end : tie.Need-part-put-segment-end Inv-loop μ-loop
-part-put-segment-end c =
-    let n = bodies-count (c .before .before .before .before .before .before .before .before .before .before .args .batch .now) in
-    let k = count-is (c .before .before .before .before .before .before .before .before .before .before .args .batch .now) (c .before .before .before .before .before .before .u32-at .result) (c .before .before .before .before .before .before .u32-at .ensures) in
-    let q = held-bounds (c .before .before .before .before .before .before .before .before .before .before .args .batch .now) (c .before .before .before .before .before .before .before .before .before .before .pre .0 .0) in
-    let st = c .before .before .before .before .before .loop .inv in
-    let a = body-at (c .before .before .before .before .before .before .before .before .before .before .args .batch .now) (c .before .before .before .before .before .before .before .before .before .before .pre .0 .0) (c .before .before .before .before .before .loop .j) (omega arith) in
-    let r = put-room _ _ _ _ _ _ _ _ _ _ _ st (omega arith) noBody (c .before .before .before .before .before .before .before .before .before .before .pre .0 .1) in
-    omega arith
+part-put-segment-end c = omega (arith, at-room (c .before .before .before .before))
 
 add-put-segment : tie.Need-add-put-segment Inv-loop μ-loop
 add-put-segment c =
-    let n = bodies-count (c .before .before .before .before .before .before .before .before .before .before .before .args .batch .now) in
-    let k = count-is (c .before .before .before .before .before .before .before .before .before .before .before .args .batch .now) (c .before .before .before .before .before .before .before .u32-at .result) (c .before .before .before .before .before .before .before .u32-at .ensures) in
-    let q = held-bounds (c .before .before .before .before .before .before .before .before .before .before .before .args .batch .now) (c .before .before .before .before .before .before .before .before .before .before .before .pre .0 .0) in
-    let st = c .before .before .before .before .before .before .loop .inv in
-    let a = body-at (c .before .before .before .before .before .before .before .before .before .before .before .args .batch .now) (c .before .before .before .before .before .before .before .before .before .before .before .pre .0 .0) (c .before .before .before .before .before .before .loop .j) (omega arith) in
-    omega (arith, c .before .before .before .before .before .before .before .before .before .before .before .pre .1 .0)
+    let b = c .before .before .before .before .before in
+    omega (arith, more b, bodies-count (s b .args .batch .now), s b .pre .1 .0)
 
 sub-put-segment-2 : tie.Need-sub-put-segment-2 Inv-loop μ-loop
-sub-put-segment-2 c =
-    let n = bodies-count (c .before .before .before .before .before .before .before .before .before .before .before .args .batch .now) in
-    let k = count-is (c .before .before .before .before .before .before .before .before .before .before .before .args .batch .now) (c .before .before .before .before .before .before .before .u32-at .result) (c .before .before .before .before .before .before .before .u32-at .ensures) in
-    let q = held-bounds (c .before .before .before .before .before .before .before .before .before .before .before .args .batch .now) (c .before .before .before .before .before .before .before .before .before .before .before .pre .0 .0) in
-    let st = c .before .before .before .before .before .before .loop .inv in
-    let a = body-at (c .before .before .before .before .before .before .before .before .before .before .before .args .batch .now) (c .before .before .before .before .before .before .before .before .before .before .before .pre .0 .0) (c .before .before .before .before .before .before .loop .j) (omega arith) in
-    omega (arith, body-inside (c .before .before .before .before .before .before .before .before .before .before .before .args .batch .now) (c .before .before .before .before .before .before .loop .j) a (c .before .before .u32-at2 .result) (c .before .u32-at3 .result) (c .before .before .u32-at2 .ensures) (c .before .u32-at3 .ensures))
+sub-put-segment-2 c = omega (arith, inside (c .before))
 
 part-put-segment-start-2 : tie.Need-part-put-segment-start-2 Inv-loop μ-loop
-part-put-segment-start-2 c =
-    let n = bodies-count (c .before .before .before .before .before .before .before .before .before .before .before .args .batch .now) in
-    let k = count-is (c .before .before .before .before .before .before .before .before .before .before .before .args .batch .now) (c .before .before .before .before .before .before .before .u32-at .result) (c .before .before .before .before .before .before .before .u32-at .ensures) in
-    let q = held-bounds (c .before .before .before .before .before .before .before .before .before .before .before .args .batch .now) (c .before .before .before .before .before .before .before .before .before .before .before .pre .0 .0) in
-    let st = c .before .before .before .before .before .before .loop .inv in
-    let a = body-at (c .before .before .before .before .before .before .before .before .before .before .before .args .batch .now) (c .before .before .before .before .before .before .before .before .before .before .before .pre .0 .0) (c .before .before .before .before .before .before .loop .j) (omega arith) in
-    omega (arith, body-inside (c .before .before .before .before .before .before .before .before .before .before .before .args .batch .now) (c .before .before .before .before .before .before .loop .j) a (c .before .before .u32-at2 .result) (c .before .u32-at3 .result) (c .before .before .u32-at2 .ensures) (c .before .u32-at3 .ensures))
+part-put-segment-start-2 c = omega (arith, inside (c .before))
 
 part-put-segment-end-2 : tie.Need-part-put-segment-end-2 Inv-loop μ-loop
-part-put-segment-end-2 c =
-    let n = bodies-count (c .before .before .before .before .before .before .before .before .before .before .before .args .batch .now) in
-    let k = count-is (c .before .before .before .before .before .before .before .before .before .before .before .args .batch .now) (c .before .before .before .before .before .before .before .u32-at .result) (c .before .before .before .before .before .before .before .u32-at .ensures) in
-    let q = held-bounds (c .before .before .before .before .before .before .before .before .before .before .before .args .batch .now) (c .before .before .before .before .before .before .before .before .before .before .before .pre .0 .0) in
-    let st = c .before .before .before .before .before .before .loop .inv in
-    let a = body-at (c .before .before .before .before .before .before .before .before .before .before .before .args .batch .now) (c .before .before .before .before .before .before .before .before .before .before .before .pre .0 .0) (c .before .before .before .before .before .before .loop .j) (omega arith) in
-    omega (arith, body-inside (c .before .before .before .before .before .before .before .before .before .before .before .args .batch .now) (c .before .before .before .before .before .before .loop .j) a (c .before .before .u32-at2 .result) (c .before .u32-at3 .result) (c .before .before .u32-at2 .ensures) (c .before .u32-at3 .ensures))
+part-put-segment-end-2 c = omega (arith, inside (c .before))
 
 put-segment-requires : tie.Need-put-segment-requires Inv-loop μ-loop
 put-segment-requires c κs =
-    let n = bodies-count (c .before .before .before .before .before .before .before .before .before .before .before .before .args .batch .now) in
-    let k = count-is (c .before .before .before .before .before .before .before .before .before .before .before .before .args .batch .now) (c .before .before .before .before .before .before .before .before .u32-at .result) (c .before .before .before .before .before .before .before .before .u32-at .ensures) in
-    let q = held-bounds (c .before .before .before .before .before .before .before .before .before .before .before .before .args .batch .now) (c .before .before .before .before .before .before .before .before .before .before .before .before .pre .0 .0) in
-    let st = c .before .before .before .before .before .before .before .loop .inv in
-    let a = body-at (c .before .before .before .before .before .before .before .before .before .before .before .before .args .batch .now) (c .before .before .before .before .before .before .before .before .before .before .before .before .pre .0 .0) (c .before .before .before .before .before .before .before .loop .j) (omega arith) in
-    let r = put-room _ _ _ _ _ _ _ _ _ _ _ st (omega arith) noBody (c .before .before .before .before .before .before .before .before .before .before .before .before .pre .0 .1) in
-    let p = body-part (c .before .before .before .before .before .before .before .before .before .before .before .before .args .batch .now) (c .before .before .before .before .before .before .before .loop .j) a (c .before .before .before .u32-at2 .result) (c .before .before .u32-at3 .result) (c .before .before .before .u32-at2 .ensures) (c .before .before .u32-at3 .ensures) in
-    let e : round64 (length (take (c .before .before .before .u32-at2 .result + c .before .before .u32-at3 .result - c .before .before .before .u32-at2 .result) (drop (c .before .before .before .u32-at2 .result) (c .before .before .before .before .before .before .before .before .before .before .before .before .args .batch .now)))) ≡ round64 _ = ap round64 (ap length p) in
-    omega (arith, e, length-take (length (c .before .before .before .before .before .before .before .loop .buf) - c .before .before .before .before .before .before .before .loop .at) (drop (c .before .before .before .before .before .before .before .loop .at) (c .before .before .before .before .before .before .before .loop .buf)), length-drop (c .before .before .before .before .before .before .before .loop .at) (c .before .before .before .before .before .before .before .loop .buf))
+    let ua3 = c .before .before in
+    let ua2 = ua3 .before in
+    let b = ua2 .before .before .before in
+    let at = l b .loop .at in
+    let buf = l b .loop .buf in
+    let batch = s b .args .batch .now in
+    let q = held-bounds batch (s b .pre .0 .0) in
+    let a = body-at batch (s b .pre .0 .0) (l b .loop .j) (omega (arith, more b, bodies-count batch)) in
+    let r = put-room _ _ _ _ _ _ _ _ _ _ _ (l b .loop .inv) (more b) noBody (s b .pre .0 .1) in
+    let p = body-part batch (l b .loop .j) a (ua2 .u32-at2 .result) (ua3 .u32-at3 .result) (ua2 .u32-at2 .ensures) (ua3 .u32-at3 .ensures) in
+    let e : round64 (length (take (ua2 .u32-at2 .result + ua3 .u32-at3 .result - ua2 .u32-at2 .result)
+    (drop (ua2 .u32-at2 .result) batch))) ≡ round64 _ =
+    ap round64 (ap length p) in
+    omega (arith, e, length-take (length buf - at) (drop at buf), length-drop at buf)
 
 add-at : tie.Need-add-at Inv-loop μ-loop
 add-at c =
-    let n = bodies-count (c .before .before .before .before .before .before .before .before .before .before .before .before .before .before .before .args .batch .now) in
-    let k = count-is (c .before .before .before .before .before .before .before .before .before .before .before .before .before .before .before .args .batch .now) (c .before .before .before .before .before .before .before .before .before .before .before .u32-at .result) (c .before .before .before .before .before .before .before .before .before .before .before .u32-at .ensures) in
-    let q = held-bounds (c .before .before .before .before .before .before .before .before .before .before .before .before .before .before .before .args .batch .now) (c .before .before .before .before .before .before .before .before .before .before .before .before .before .before .before .pre .0 .0) in
-    let st = c .before .before .before .before .before .before .before .before .before .before .loop .inv in
-    let a = body-at (c .before .before .before .before .before .before .before .before .before .before .before .before .before .before .before .args .batch .now) (c .before .before .before .before .before .before .before .before .before .before .before .before .before .before .before .pre .0 .0) (c .before .before .before .before .before .before .before .before .before .before .loop .j) (omega arith) in
-    let r = put-room _ _ _ _ _ _ _ _ _ _ _ st (omega arith) noBody (c .before .before .before .before .before .before .before .before .before .before .before .before .before .before .before .pre .0 .1) in
-    let z = c .before .before .put-segment .ensures .0 ∙ body-length (c .before .before .before .before .before .before .before .before .before .before .before .before .before .before .before .args .batch .now) (c .before .before .before .before .before .before .before .before .before .before .loop .j) a (c .before .before .before .before .before .before .u32-at2 .result) (c .before .before .before .before .before .u32-at3 .result) (c .before .before .before .before .before .before .u32-at2 .ensures) (c .before .before .before .before .before .u32-at3 .ensures) _ _ (c .before .before .before .before .before .before .before .before .before .before .before .before .before .before .before .args .first-id + c .before .before .before .before .before .before .before .before .before .before .loop .j) (c .before .before .before .before .before .before .before .before .before .before .before .before .before .before .before .args .timestamp) in
+    let ua3 = c .before .before .before .before .before in
+    let ua2 = ua3 .before in
+    let b = ua2 .before .before .before in
+    let batch = s b .args .batch .now in
+    let j = l b .loop .j in
+    let a = body-at batch (s b .pre .0 .0) j (omega (arith, more b, bodies-count batch)) in
+    let r = put-room _ _ _ _ _ _ _ _ _ _ _ (l b .loop .inv) (more b) noBody (s b .pre .0 .1) in
+    let z =
+    c .before .before .put-segment .ensures .0
+    ∙ body-length batch j a (ua2 .u32-at2 .result) (ua3 .u32-at3 .result) (ua2 .u32-at2 .ensures) (ua3 .u32-at3 .ensures)
+    _ _ (s b .args .first-id + j) (s b .args .timestamp) in
     omega (arith, z)
-
-add-j : tie.Need-add-j Inv-loop μ-loop
-add-j c = search needs
-
-loop-less : tie.Need-loop-less Inv-loop μ-loop
-loop-less c = search needs
 
 loop-again : tie.Need-loop-again Inv-loop μ-loop
 loop-again c =
-    let n = bodies-count (c .before .before .before .before .before .before .before .before .before .before .before .before .before .before .before .args .batch .now) in
-    let k = count-is (c .before .before .before .before .before .before .before .before .before .before .before .before .before .before .before .args .batch .now) (c .before .before .before .before .before .before .before .before .before .before .before .u32-at .result) (c .before .before .before .before .before .before .before .before .before .before .before .u32-at .ensures) in
-    let q = held-bounds (c .before .before .before .before .before .before .before .before .before .before .before .before .before .before .before .args .batch .now) (c .before .before .before .before .before .before .before .before .before .before .before .before .before .before .before .pre .0 .0) in
-    let st = c .before .before .before .before .before .before .before .before .before .before .loop .inv in
-    let a = body-at (c .before .before .before .before .before .before .before .before .before .before .before .before .before .before .before .args .batch .now) (c .before .before .before .before .before .before .before .before .before .before .before .before .before .before .before .pre .0 .0) (c .before .before .before .before .before .before .before .before .before .before .loop .j) (omega arith) in
-    let r = put-room _ _ _ _ _ _ _ _ _ _ _ st (omega arith) noBody (c .before .before .before .before .before .before .before .before .before .before .before .before .before .before .before .pre .0 .1) in
-    let z = c .before .before .put-segment .ensures .0 ∙ body-length (c .before .before .before .before .before .before .before .before .before .before .before .before .before .before .before .args .batch .now) (c .before .before .before .before .before .before .before .before .before .before .loop .j) a (c .before .before .before .before .before .before .u32-at2 .result) (c .before .before .before .before .before .u32-at3 .result) (c .before .before .before .before .before .before .u32-at2 .ensures) (c .before .before .before .before .before .u32-at3 .ensures) _ _ (c .before .before .before .before .before .before .before .before .before .before .before .before .before .before .before .args .first-id + c .before .before .before .before .before .before .before .before .before .before .loop .j) (c .before .before .before .before .before .before .before .before .before .before .before .before .before .before .before .args .timestamp) in
-    put-next _ _ _ _ _ _ _ _ _ _ _ st (omega arith) noBody (c .before .before .before .before .before .before .before .before .before .before .before .before .before .before .before .pre .0 .1) _ _ _ (body-segment (c .before .before .before .before .before .before .before .before .before .before .before .before .before .before .before .args .batch .now) (c .before .before .before .before .before .before .before .before .before .before .loop .j) a (c .before .before .before .before .before .before .u32-at2 .result) (c .before .before .before .before .before .u32-at3 .result) (c .before .before .before .before .before .before .u32-at2 .ensures) (c .before .before .before .before .before .u32-at3 .ensures) _ _ (c .before .before .before .before .before .before .before .before .before .before .before .before .before .before .before .args .first-id + c .before .before .before .before .before .before .before .before .before .before .loop .j) (c .before .before .before .before .before .before .before .before .before .before .before .before .before .before .before .args .timestamp) refl (c .before .before .before .before .before .before .before .u16-at .ensures)) (c .before .before .put-segment .ensures .0)
-    (back _ _ _ _ (c .before .before .put-segment .ensures .1) (omega (arith, z, c .before .before .put-segment .ensures .0))) (omega (arith, c .before .before .before .before .before .before .before .before .before .before .before .before .before .before .before .pre .1 .1))
-
-same-length : tie.Need-same-length Inv-loop μ-loop
-same-length c = search needs
-
-same-length-2 : tie.Need-same-length-2 Inv-loop μ-loop
-same-length-2 c = search needs
+    let ps = c .before .before in
+    let ua3 = ps .before .before .before in
+    let ua2 = ua3 .before in
+    let b = ua2 .before .before .before in
+    let s = s b in
+    let batch = s .args .batch .now in
+    let j = l b .loop .j in
+    let n = bodies-count batch in
+    let k = count-is batch (l b .before .u32-at .result) (l b .before .u32-at .ensures) in
+    let a = body-at batch (s .pre .0 .0) j (omega (arith, more b, n)) in
+    let r = put-room _ _ _ _ _ _ _ _ _ _ _ (l b .loop .inv) (more b) noBody (s .pre .0 .1) in
+    let z =
+    ps .put-segment .ensures .0
+    ∙ body-length batch j a (ua2 .u32-at2 .result) (ua3 .u32-at3 .result) (ua2 .u32-at2 .ensures) (ua3 .u32-at3 .ensures)
+    _ _ (s .args .first-id + j) (s .args .timestamp) in
+    put-next _ _ _ _ _ _ _ _ _ _ _ (l b .loop .inv) (more b) noBody (s .pre .0 .1) _ _ _
+    (body-segment batch j a (ua2 .u32-at2 .result) (ua3 .u32-at3 .result) (ua2 .u32-at2 .ensures) (ua3 .u32-at3 .ensures)
+    _ _ (s .args .first-id + j) (s .args .timestamp) refl (ua2 .before .u16-at .ensures))
+    (ps .put-segment .ensures .0)
+    (back _ _ _ _ (ps .put-segment .ensures .1) (omega (arith, z, ps .put-segment .ensures .0))) (omega (arith, s .pre .1 .1))
 
 returns : tie.Need-returns Inv-loop μ-loop
 returns c =
-    let n = bodies-count (c .before .before .before .before .before .before .args .batch .now) in
-    let k = count-is (c .before .before .before .before .before .before .args .batch .now) (c .before .before .u32-at .result) (c .before .before .u32-at .ensures) in
-    let q = held-bounds (c .before .before .before .before .before .before .args .batch .now) (c .before .before .before .before .before .before .pre .0 .0) in
+    let u = c .before .before in
+    let batch = u .before .before .before .before .args .batch .now in
+    let n = bodies-count batch in
+    let k = count-is batch (u .u32-at .result) (u .u32-at .ensures) in
     put-last _ _ _ _ _ _ _ _ _ _ _ (c .before .loop .inv) (omega arith)
 
 pub put-bodies-spec : {M : Type 1} → statement M
 put-bodies-spec =
     tie.close
     (tie.spec
-    Inv-loop
-    μ-loop
-    u32-at-requires
-    cast-m
-    loop-holds
-    mul-line
-    add-line
-    shared-slice-read-kind
-    add-u16-at
-    u16-at-requires
-    add-u32-at
-    u32-at-requires-2
-    cast-from
-    add-u32-at-2
-    u32-at-requires-3
-    cast-to
-    add-to
-    add-offsets
-    mul-offsets
-    slice-write-offsets
-    sub-put-segment
-    part-put-segment-start
-    part-put-segment-end
-    add-put-segment
-    sub-put-segment-2
-    part-put-segment-start-2
-    part-put-segment-end-2
-    put-segment-requires
-    add-at
-    add-j
-    loop-less
-    loop-again
-    same-length
-    same-length-2
-    returns)
+    Inv-loop μ-loop u32-at-requires (λ c. search needs) loop-holds mul-line add-line shared-slice-read-kind
+    add-u16-at u16-at-requires add-u32-at u32-at-requires-2 (λ c. search needs) add-u32-at-2 u32-at-requires-3
+    (λ c. search needs) add-to add-offsets mul-offsets slice-write-offsets sub-put-segment
+    part-put-segment-start part-put-segment-end add-put-segment sub-put-segment-2 part-put-segment-start-2
+    part-put-segment-end-2 put-segment-requires add-at (λ c. search needs) (λ c. search needs) loop-again
+    (λ c. search needs) (λ c. search needs) returns)

@@ -1,6 +1,6 @@
 -- `commit::finish` meets its contract: its tests in order, then what is written.
 -- Assumes nothing.
-use Prim.Native.Nat.{ℕ, _+_, _-_, _*_, _^_, _≤_}
+use Prim.Native.Nat.{ℕ, _+_, _-_, _*_, _^_, _≤_, _<_}
 use mathlib.Core.Path.{_≡_, refl, sym, ap, _∙_}
 use mathlib.Core.Bool.{false}
 use native.Mathlib.Omega.{arith}
@@ -21,197 +21,223 @@ use borrow.Author.Needs.{needs}
 use Rattle.append.proofs.commit.finish.Statement.{statement}
 use Rattle.append.proofs.commit.finish.Tie as tie
 
+-- Where the batch's count `m` is read: the numbers of the new manifest. `s` is the call.
+module _ (u : tie.After-u32-at) where
+  abbrev s : tie.Start
+  s = u .before .before .before .before .before
+
+  abbrev m : ℕ
+  m = u .u32-at .result
+
+  abbrev next : ℕ
+  next = nextOf (s .args .first) (s .args .last)
+
+  count-new : s .args .kept + m ≡ newCount (opened (take (s .args .start) (s .args .buf .now))) (bodiesOf (s .args .batch .now))
+  count-new =
+      count-number _ _ _ _ m next (s .pre .1 .start-is) (s .pre .1 .count-is)
+      (bodies-count (s .args .batch .now) ∙ sym (count-is (s .args .batch .now) m (u .u32-at .ensures))) (s .pre .1 .next-is)
+
+  id-new : next + m ≡ manifestId (opened (take (s .args .start) (s .args .buf .now))) (bodiesOf (s .args .batch .now))
+  id-new =
+      id-number _ _ _ _ m next (s .pre .1 .start-is) (s .pre .1 .count-is)
+      (bodies-count (s .args .batch .now) ∙ sym (count-is (s .args .batch .now) m (u .u32-at .ensures))) (s .pre .1 .next-is)
+
+-- Where the ids suffice.
+module _ (e : tie.Else2) where
+  abbrev u : tie.After-u32-at
+  u = e .before .before .before
+
+  id-enough : ltb (2 ^ 64 - 1) (manifestId (opened (take (s u .args .start) (s u .args .buf .now))) (bodiesOf (s u .args .batch .now))) ≡ false
+  id-enough = ap (ltb (2 ^ 64 - 1)) (sym (id-new u)) ∙ sym (e .before .ids-over .ensures) ∙ e .if2 .left
+
+  id-fits : next u + m u ≤ 2 ^ 64 - 1
+  id-fits = ltb-false (2 ^ 64 - 1) (next u + m u) (sym (e .before .ids-over .ensures) ∙ e .if2 .left)
+
+-- Where the bodies' end is known.
+bodies-small : (b : tie.After-bodies-end) → b .bodies-end .result ≤ 17827840
+bodies-small b =
+    let s = s (u (b .before .before)) in
+    omega (arith, b .bodies-end .ensures, bodies-most (s .args .batch .now) (s .args .start) (s .pre .0 .0) (s .pre .1 .small))
+
+-- Where the file's new end is known.
+end-new : (r : tie.After-round-up2) → r .before .before .bodies-end .result + 64 + r .round-up2 .result
+    ≡ newEnd (opened (take (s (u (r .before .before .before .before)) .args .start) (s (u (r .before .before .before .before)) .args .buf .now)))
+    (bodiesOf (s (u (r .before .before .before .before)) .args .batch .now))
+end-new r =
+    let b = r .before .before in
+    let u = u (b .before .before) in
+    end-number _ _ _ _ (m u) (next u) (s u .pre .1 .start-is) (s u .pre .1 .count-is)
+    (bodies-count (s u .args .batch .now) ∙ sym (count-is (s u .args .batch .now) (m u) (u .u32-at .ensures))) (s u .pre .1 .next-is)
+    _ _ _ (b .bodies-end .ensures) (r .before .round-up .ensures) (r .round-up2 .ensures)
+
+-- Where the bodies are laid: the lists that the manifest is made of.
+module _ (p : tie.After-put-bodies) where
+  abbrev r : tie.After-round-up2
+  r = p .before .before .before .before .before
+
+  abbrev b : tie.After-bodies-end
+  b = r .before .before
+
+  abbrev n : tie.After-next-id
+  n = b .before
+
+  abbrev v : tie.After-u32-at
+  v = u (n .before)
+
+  abbrev all : ℕ
+  all = s v .args .kept + m v
+
+  few : all ≤ 1024
+  few = omega (arith, n .before .before .before .if1 .left)
+
+  offsets-long : all ≤ length (p .put-bodies .last .1 .1 .1 .1 .1 .0)
+  offsets-long = omega (arith, few, p .put-bodies .kept .1 .1 .1 .1 .1 .0, s v .pre .0 .1 .0)
+
+  offsets-count : length (take all (p .put-bodies .last .1 .1 .1 .1 .1 .0)) ≡ all
+  offsets-count = length-take-le all (p .put-bodies .last .1 .1 .1 .1 .1 .0) offsets-long
+
+  states-count : length (take all (s v .args .states .now)) ≡ all
+  states-count = length-take-le all (s v .args .states .now) (omega (arith, few, s v .pre .0 .1 .1))
+
+  ids-fit : n .next-id .result + m v < 2 ^ 64
+  ids-fit = omega (arith, n .next-id .ensures, id-fits (n .before))
+
 u32-at-requires : tie.Need-u32-at-requires
 u32-at-requires c κs =
-    let q = held-bounds (c .before .before .before .before .args .batch .now) (c .before .before .before .before .pre .0 .0) in
+    let s = c .before .before .before .before in
+    let q = held-bounds (s .args .batch .now) (s .pre .0 .0) in
     omega arith
-
-cast-m : tie.Need-cast-m
-cast-m c = search needs
 
 add-count : tie.Need-add-count
 add-count c =
-    let q = held-bounds (c .before .before .before .before .before .args .batch .now) (c .before .before .before .before .before .pre .0 .0) in
-    let m-is = count-is (c .before .before .before .before .before .args .batch .now) (c .u32-at .result) (c .u32-at .ensures) in
-    omega (arith, c .before .before .before .before .before .pre .1 .few)
+    let q = held-bounds (s c .args .batch .now) (s c .pre .0 .0) in
+    let m-is = count-is (s c .args .batch .now) (m c) (c .u32-at .ensures) in
+    omega (arith, s c .pre .1 .few)
 
 returns : tie.Need-returns
-returns c =
-    let cn : c .before .before .before .before .before .before .args .kept + c .before .u32-at .result ≡ newCount (opened (take (c .before .before .before .before .before .before .args .start) (c .before .before .before .before .before .before .args .buf .now))) (bodiesOf (c .before .before .before .before .before .before .args .batch .now)) = count-number (opened (take (c .before .before .before .before .before .before .args .start) (c .before .before .before .before .before .before .args .buf .now))) (bodiesOf (c .before .before .before .before .before .before .args .batch .now)) (c .before .before .before .before .before .before .args .start) (c .before .before .before .before .before .before .args .kept) (c .before .u32-at .result) (nextOf (c .before .before .before .before .before .before .args .first) (c .before .before .before .before .before .before .args .last)) (c .before .before .before .before .before .before .pre .1 .start-is) (c .before .before .before .before .before .before .pre .1 .count-is) (bodies-count (c .before .before .before .before .before .before .args .batch .now) ∙ sym (count-is (c .before .before .before .before .before .before .args .batch .now) (c .before .u32-at .result) (c .before .u32-at .ensures))) (c .before .before .before .before .before .before .pre .1 .next-is) in
-    late-entries _ _ _ _ _ (omega (arith, cn))
+returns c = late-entries _ _ _ _ _ (omega (arith, count-new (c .before)))
 
 ids-over-requires : tie.Need-ids-over-requires
 ids-over-requires c κs =
-    let q = held-bounds (c .before .before .before .before .before .before .args .batch .now) (c .before .before .before .before .before .before .pre .0 .0) in
-    let m-is = count-is (c .before .before .before .before .before .before .args .batch .now) (c .before .u32-at .result) (c .before .u32-at .ensures) in
+    let u = c .before in
+    let q = held-bounds (s u .args .batch .now) (s u .pre .0 .0) in
+    let m-is = count-is (s u .args .batch .now) (m u) (u .u32-at .ensures) in
     omega arith
 
 returns-2 : tie.Need-returns-2
 returns-2 c =
-    let cn : c .before .before .before .before .before .before .before .before .args .kept + c .before .before .before .u32-at .result ≡ newCount (opened (take (c .before .before .before .before .before .before .before .before .args .start) (c .before .before .before .before .before .before .before .before .args .buf .now))) (bodiesOf (c .before .before .before .before .before .before .before .before .args .batch .now)) = count-number (opened (take (c .before .before .before .before .before .before .before .before .args .start) (c .before .before .before .before .before .before .before .before .args .buf .now))) (bodiesOf (c .before .before .before .before .before .before .before .before .args .batch .now)) (c .before .before .before .before .before .before .before .before .args .start) (c .before .before .before .before .before .before .before .before .args .kept) (c .before .before .before .u32-at .result) (nextOf (c .before .before .before .before .before .before .before .before .args .first) (c .before .before .before .before .before .before .before .before .args .last)) (c .before .before .before .before .before .before .before .before .pre .1 .start-is) (c .before .before .before .before .before .before .before .before .pre .1 .count-is) (bodies-count (c .before .before .before .before .before .before .before .before .args .batch .now) ∙ sym (count-is (c .before .before .before .before .before .before .before .before .args .batch .now) (c .before .before .before .u32-at .result) (c .before .before .before .u32-at .ensures))) (c .before .before .before .before .before .before .before .before .pre .1 .next-is) in
-    let i : nextOf (c .before .before .before .before .before .before .before .before .args .first) (c .before .before .before .before .before .before .before .before .args .last) + c .before .before .before .u32-at .result ≡ manifestId (opened (take (c .before .before .before .before .before .before .before .before .args .start) (c .before .before .before .before .before .before .before .before .args .buf .now))) (bodiesOf (c .before .before .before .before .before .before .before .before .args .batch .now)) = id-number (opened (take (c .before .before .before .before .before .before .before .before .args .start) (c .before .before .before .before .before .before .before .before .args .buf .now))) (bodiesOf (c .before .before .before .before .before .before .before .before .args .batch .now)) (c .before .before .before .before .before .before .before .before .args .start) (c .before .before .before .before .before .before .before .before .args .kept) (c .before .before .before .u32-at .result) (nextOf (c .before .before .before .before .before .before .before .before .args .first) (c .before .before .before .before .before .before .before .before .args .last)) (c .before .before .before .before .before .before .before .before .pre .1 .start-is) (c .before .before .before .before .before .before .before .before .pre .1 .count-is) (bodies-count (c .before .before .before .before .before .before .before .before .args .batch .now) ∙ sym (count-is (c .before .before .before .before .before .before .before .before .args .batch .now) (c .before .before .before .u32-at .result) (c .before .before .before .u32-at .ensures))) (c .before .before .before .before .before .before .before .before .pre .1 .next-is) in
-    late-ids _ _ _ _ _ (omega (arith, cn)) (ap (ltb (2 ^ 64 - 1)) (sym i) ∙ sym (c .before .ids-over .ensures) ∙ c .if2 .taken)
+    let u = c .before .before .before in
+    late-ids _ _ _ _ _ (omega (arith, count-new u)) (ap (ltb (2 ^ 64 - 1)) (sym (id-new u)) ∙ sym (c .before .ids-over .ensures) ∙ c .if2 .taken)
 
 next-id-requires : tie.Need-next-id-requires
-next-id-requires c κs =
-    let i : nextOf (c .before .before .before .before .before .before .before .before .args .first) (c .before .before .before .before .before .before .before .before .args .last) + c .before .before .before .u32-at .result ≡ manifestId (opened (take (c .before .before .before .before .before .before .before .before .args .start) (c .before .before .before .before .before .before .before .before .args .buf .now))) (bodiesOf (c .before .before .before .before .before .before .before .before .args .batch .now)) = id-number (opened (take (c .before .before .before .before .before .before .before .before .args .start) (c .before .before .before .before .before .before .before .before .args .buf .now))) (bodiesOf (c .before .before .before .before .before .before .before .before .args .batch .now)) (c .before .before .before .before .before .before .before .before .args .start) (c .before .before .before .before .before .before .before .before .args .kept) (c .before .before .before .u32-at .result) (nextOf (c .before .before .before .before .before .before .before .before .args .first) (c .before .before .before .before .before .before .before .before .args .last)) (c .before .before .before .before .before .before .before .before .pre .1 .start-is) (c .before .before .before .before .before .before .before .before .pre .1 .count-is) (bodies-count (c .before .before .before .before .before .before .before .before .args .batch .now) ∙ sym (count-is (c .before .before .before .before .before .before .before .before .args .batch .now) (c .before .before .before .u32-at .result) (c .before .before .before .u32-at .ensures))) (c .before .before .before .before .before .before .before .before .pre .1 .next-is) in
-    let ov : ltb (2 ^ 64 - 1) (manifestId (opened (take (c .before .before .before .before .before .before .before .before .args .start) (c .before .before .before .before .before .before .before .before .args .buf .now))) (bodiesOf (c .before .before .before .before .before .before .before .before .args .batch .now))) ≡ false = ap (ltb (2 ^ 64 - 1)) (sym i) ∙ sym (c .before .ids-over .ensures) ∙ c .if2 .left in
-    let fit : nextOf (c .before .before .before .before .before .before .before .before .args .first) (c .before .before .before .before .before .before .before .before .args .last) + c .before .before .before .u32-at .result ≤ 2 ^ 64 - 1 = ltb-false (2 ^ 64 - 1) (nextOf (c .before .before .before .before .before .before .before .before .args .first) (c .before .before .before .before .before .before .before .before .args .last) + c .before .before .before .u32-at .result) (sym (c .before .ids-over .ensures) ∙ c .if2 .left) in
-    omega arith
+next-id-requires c κs = omega (arith, id-fits c)
 
 bodies-end-requires : tie.Need-bodies-end-requires
-bodies-end-requires c κs = (c .before .before .before .before .before .before .before .before .before .pre .0 .0, c .before .before .before .before .before .before .before .before .before .pre .1 .small)
+bodies-end-requires c κs =
+    let s = s (u (c .before)) in
+    (s .pre .0 .0, s .pre .1 .small)
 
 add-end : tie.Need-add-end
-add-end c =
-    let z = bodies-most (c .before .before .before .before .before .before .before .before .before .before .args .batch .now) (c .before .before .before .before .before .before .before .before .before .before .args .start) (c .before .before .before .before .before .before .before .before .before .before .pre .0 .0) (c .before .before .before .before .before .before .before .before .before .before .pre .1 .small) in
-    omega (arith, z, c .bodies-end .ensures)
+add-end c = omega (arith, bodies-small c)
 
 mul-round-up : tie.Need-mul-round-up
-mul-round-up c =
-    let z = bodies-most (c .before .before .before .before .before .before .before .before .before .before .args .batch .now) (c .before .before .before .before .before .before .before .before .before .before .args .start) (c .before .before .before .before .before .before .before .before .before .before .pre .0 .0) (c .before .before .before .before .before .before .before .before .before .before .pre .1 .small) in
-    omega (arith, z, c .bodies-end .ensures)
+mul-round-up c = omega (arith, bodies-small c)
 
 add-round-up : tie.Need-add-round-up
-add-round-up c =
-    let z = bodies-most (c .before .before .before .before .before .before .before .before .before .before .args .batch .now) (c .before .before .before .before .before .before .before .before .before .before .args .start) (c .before .before .before .before .before .before .before .before .before .before .pre .0 .0) (c .before .before .before .before .before .before .before .before .before .before .pre .1 .small) in
-    omega (arith, z, c .bodies-end .ensures)
+add-round-up c = omega (arith, bodies-small c)
 
 round-up-requires : tie.Need-round-up-requires
-round-up-requires c κs =
-    let z = bodies-most (c .before .before .before .before .before .before .before .before .before .before .args .batch .now) (c .before .before .before .before .before .before .before .before .before .before .args .start) (c .before .before .before .before .before .before .before .before .before .before .pre .0 .0) (c .before .before .before .before .before .before .before .before .before .before .pre .1 .small) in
-    omega (arith, z, c .bodies-end .ensures)
+round-up-requires c κs = omega (arith, bodies-small c)
 
 add-round-up-2 : tie.Need-add-round-up-2
 add-round-up-2 c =
-    let l = round64-lt (8 + 48 * (c .before .before .before .before .before .before .before .before .before .before .before .args .kept + c .before .before .before .before .before .before .u32-at .result)) in
-    omega (arith, c .round-up .ensures)
+    let u = u (c .before .before .before) in
+    omega (arith, c .round-up .ensures, round64-lt (8 + 48 * (s u .args .kept + m u)))
 
 round-up-requires-2 : tie.Need-round-up-requires-2
 round-up-requires-2 c κs =
-    let l = round64-lt (8 + 48 * (c .before .before .before .before .before .before .before .before .before .before .before .args .kept + c .before .before .before .before .before .before .u32-at .result)) in
-    omega (arith, c .round-up .ensures)
+    let u = u (c .before .before .before) in
+    omega (arith, c .round-up .ensures, round64-lt (8 + 48 * (s u .args .kept + m u)))
 
 add-end-2 : tie.Need-add-end-2
 add-end-2 c =
-    let z = bodies-most (c .before .before .before .before .before .before .before .before .before .before .before .before .args .batch .now) (c .before .before .before .before .before .before .before .before .before .before .before .before .args .start) (c .before .before .before .before .before .before .before .before .before .before .before .before .pre .0 .0) (c .before .before .before .before .before .before .before .before .before .before .before .before .pre .1 .small) in
-    let l = round64-lt (8 + 48 * (c .before .before .before .before .before .before .before .before .before .before .before .before .args .kept + c .before .before .before .before .before .before .before .u32-at .result)) in
+    let u = u (c .before .before .before .before) in
+    let l = round64-lt (8 + 48 * (s u .args .kept + m u)) in
     let k = round64-lt (c .before .round-up .result + 4096) in
-    omega (arith, z, c .before .before .bodies-end .ensures, c .before .round-up .ensures, c .round-up2 .ensures)
+    omega (arith, bodies-small (c .before .before), c .before .round-up .ensures, c .round-up2 .ensures)
 
 returns-3 : tie.Need-returns-3
 returns-3 c =
-    let cn : c .before .before .before .before .before .before .before .before .before .before .before .before .before .args .kept + c .before .before .before .before .before .before .before .before .u32-at .result ≡ newCount (opened (take (c .before .before .before .before .before .before .before .before .before .before .before .before .before .args .start) (c .before .before .before .before .before .before .before .before .before .before .before .before .before .args .buf .now))) (bodiesOf (c .before .before .before .before .before .before .before .before .before .before .before .before .before .args .batch .now)) = count-number (opened (take (c .before .before .before .before .before .before .before .before .before .before .before .before .before .args .start) (c .before .before .before .before .before .before .before .before .before .before .before .before .before .args .buf .now))) (bodiesOf (c .before .before .before .before .before .before .before .before .before .before .before .before .before .args .batch .now)) (c .before .before .before .before .before .before .before .before .before .before .before .before .before .args .start) (c .before .before .before .before .before .before .before .before .before .before .before .before .before .args .kept) (c .before .before .before .before .before .before .before .before .u32-at .result) (nextOf (c .before .before .before .before .before .before .before .before .before .before .before .before .before .args .first) (c .before .before .before .before .before .before .before .before .before .before .before .before .before .args .last)) (c .before .before .before .before .before .before .before .before .before .before .before .before .before .pre .1 .start-is) (c .before .before .before .before .before .before .before .before .before .before .before .before .before .pre .1 .count-is) (bodies-count (c .before .before .before .before .before .before .before .before .before .before .before .before .before .args .batch .now) ∙ sym (count-is (c .before .before .before .before .before .before .before .before .before .before .before .before .before .args .batch .now) (c .before .before .before .before .before .before .before .before .u32-at .result) (c .before .before .before .before .before .before .before .before .u32-at .ensures))) (c .before .before .before .before .before .before .before .before .before .before .before .before .before .pre .1 .next-is) in
-    let i : nextOf (c .before .before .before .before .before .before .before .before .before .before .before .before .before .args .first) (c .before .before .before .before .before .before .before .before .before .before .before .before .before .args .last) + c .before .before .before .before .before .before .before .before .u32-at .result ≡ manifestId (opened (take (c .before .before .before .before .before .before .before .before .before .before .before .before .before .args .start) (c .before .before .before .before .before .before .before .before .before .before .before .before .before .args .buf .now))) (bodiesOf (c .before .before .before .before .before .before .before .before .before .before .before .before .before .args .batch .now)) = id-number (opened (take (c .before .before .before .before .before .before .before .before .before .before .before .before .before .args .start) (c .before .before .before .before .before .before .before .before .before .before .before .before .before .args .buf .now))) (bodiesOf (c .before .before .before .before .before .before .before .before .before .before .before .before .before .args .batch .now)) (c .before .before .before .before .before .before .before .before .before .before .before .before .before .args .start) (c .before .before .before .before .before .before .before .before .before .before .before .before .before .args .kept) (c .before .before .before .before .before .before .before .before .u32-at .result) (nextOf (c .before .before .before .before .before .before .before .before .before .before .before .before .before .args .first) (c .before .before .before .before .before .before .before .before .before .before .before .before .before .args .last)) (c .before .before .before .before .before .before .before .before .before .before .before .before .before .pre .1 .start-is) (c .before .before .before .before .before .before .before .before .before .before .before .before .before .pre .1 .count-is) (bodies-count (c .before .before .before .before .before .before .before .before .before .before .before .before .before .args .batch .now) ∙ sym (count-is (c .before .before .before .before .before .before .before .before .before .before .before .before .before .args .batch .now) (c .before .before .before .before .before .before .before .before .u32-at .result) (c .before .before .before .before .before .before .before .before .u32-at .ensures))) (c .before .before .before .before .before .before .before .before .before .before .before .before .before .pre .1 .next-is) in
-    let ov : ltb (2 ^ 64 - 1) (manifestId (opened (take (c .before .before .before .before .before .before .before .before .before .before .before .before .before .args .start) (c .before .before .before .before .before .before .before .before .before .before .before .before .before .args .buf .now))) (bodiesOf (c .before .before .before .before .before .before .before .before .before .before .before .before .before .args .batch .now))) ≡ false = ap (ltb (2 ^ 64 - 1)) (sym i) ∙ sym (c .before .before .before .before .before .before .ids-over .ensures) ∙ c .before .before .before .before .before .if2 .left in
-    let fit : nextOf (c .before .before .before .before .before .before .before .before .before .before .before .before .before .args .first) (c .before .before .before .before .before .before .before .before .before .before .before .before .before .args .last) + c .before .before .before .before .before .before .before .before .u32-at .result ≤ 2 ^ 64 - 1 = ltb-false (2 ^ 64 - 1) (nextOf (c .before .before .before .before .before .before .before .before .before .before .before .before .before .args .first) (c .before .before .before .before .before .before .before .before .before .before .before .before .before .args .last) + c .before .before .before .before .before .before .before .before .u32-at .result) (sym (c .before .before .before .before .before .before .ids-over .ensures) ∙ c .before .before .before .before .before .if2 .left) in
-    let e : c .before .before .before .bodies-end .result + 64 + c .before .round-up2 .result ≡ newEnd (opened (take (c .before .before .before .before .before .before .before .before .before .before .before .before .before .args .start) (c .before .before .before .before .before .before .before .before .before .before .before .before .before .args .buf .now))) (bodiesOf (c .before .before .before .before .before .before .before .before .before .before .before .before .before .args .batch .now)) = end-number (opened (take (c .before .before .before .before .before .before .before .before .before .before .before .before .before .args .start) (c .before .before .before .before .before .before .before .before .before .before .before .before .before .args .buf .now))) (bodiesOf (c .before .before .before .before .before .before .before .before .before .before .before .before .before .args .batch .now)) (c .before .before .before .before .before .before .before .before .before .before .before .before .before .args .start) (c .before .before .before .before .before .before .before .before .before .before .before .before .before .args .kept) (c .before .before .before .before .before .before .before .before .u32-at .result) (nextOf (c .before .before .before .before .before .before .before .before .before .before .before .before .before .args .first) (c .before .before .before .before .before .before .before .before .before .before .before .before .before .args .last)) (c .before .before .before .before .before .before .before .before .before .before .before .before .before .pre .1 .start-is) (c .before .before .before .before .before .before .before .before .before .before .before .before .before .pre .1 .count-is) (bodies-count (c .before .before .before .before .before .before .before .before .before .before .before .before .before .args .batch .now) ∙ sym (count-is (c .before .before .before .before .before .before .before .before .before .before .before .before .before .args .batch .now) (c .before .before .before .before .before .before .before .before .u32-at .result) (c .before .before .before .before .before .before .before .before .u32-at .ensures))) (c .before .before .before .before .before .before .before .before .before .before .before .before .before .pre .1 .next-is) _ _ _ (c .before .before .before .bodies-end .ensures) (c .before .before .round-up .ensures) (c .before .round-up2 .ensures) in
-    late-limit _ _ _ _ _ (omega (arith, cn)) ov (omega (arith, e))
+    let e2 = c .before .before .before .before .before in
+    late-limit _ _ _ _ _ (omega (arith, count-new (u e2))) (id-enough e2) (omega (arith, end-new (c .before)))
 
 returns-4 : tie.Need-returns-4
 returns-4 c =
-    let cn : c .before .before .before .before .before .before .before .before .before .before .before .before .before .before .args .kept + c .before .before .before .before .before .before .before .before .before .u32-at .result ≡ newCount (opened (take (c .before .before .before .before .before .before .before .before .before .before .before .before .before .before .args .start) (c .before .before .before .before .before .before .before .before .before .before .before .before .before .before .args .buf .now))) (bodiesOf (c .before .before .before .before .before .before .before .before .before .before .before .before .before .before .args .batch .now)) = count-number (opened (take (c .before .before .before .before .before .before .before .before .before .before .before .before .before .before .args .start) (c .before .before .before .before .before .before .before .before .before .before .before .before .before .before .args .buf .now))) (bodiesOf (c .before .before .before .before .before .before .before .before .before .before .before .before .before .before .args .batch .now)) (c .before .before .before .before .before .before .before .before .before .before .before .before .before .before .args .start) (c .before .before .before .before .before .before .before .before .before .before .before .before .before .before .args .kept) (c .before .before .before .before .before .before .before .before .before .u32-at .result) (nextOf (c .before .before .before .before .before .before .before .before .before .before .before .before .before .before .args .first) (c .before .before .before .before .before .before .before .before .before .before .before .before .before .before .args .last)) (c .before .before .before .before .before .before .before .before .before .before .before .before .before .before .pre .1 .start-is) (c .before .before .before .before .before .before .before .before .before .before .before .before .before .before .pre .1 .count-is) (bodies-count (c .before .before .before .before .before .before .before .before .before .before .before .before .before .before .args .batch .now) ∙ sym (count-is (c .before .before .before .before .before .before .before .before .before .before .before .before .before .before .args .batch .now) (c .before .before .before .before .before .before .before .before .before .u32-at .result) (c .before .before .before .before .before .before .before .before .before .u32-at .ensures))) (c .before .before .before .before .before .before .before .before .before .before .before .before .before .before .pre .1 .next-is) in
-    let i : nextOf (c .before .before .before .before .before .before .before .before .before .before .before .before .before .before .args .first) (c .before .before .before .before .before .before .before .before .before .before .before .before .before .before .args .last) + c .before .before .before .before .before .before .before .before .before .u32-at .result ≡ manifestId (opened (take (c .before .before .before .before .before .before .before .before .before .before .before .before .before .before .args .start) (c .before .before .before .before .before .before .before .before .before .before .before .before .before .before .args .buf .now))) (bodiesOf (c .before .before .before .before .before .before .before .before .before .before .before .before .before .before .args .batch .now)) = id-number (opened (take (c .before .before .before .before .before .before .before .before .before .before .before .before .before .before .args .start) (c .before .before .before .before .before .before .before .before .before .before .before .before .before .before .args .buf .now))) (bodiesOf (c .before .before .before .before .before .before .before .before .before .before .before .before .before .before .args .batch .now)) (c .before .before .before .before .before .before .before .before .before .before .before .before .before .before .args .start) (c .before .before .before .before .before .before .before .before .before .before .before .before .before .before .args .kept) (c .before .before .before .before .before .before .before .before .before .u32-at .result) (nextOf (c .before .before .before .before .before .before .before .before .before .before .before .before .before .before .args .first) (c .before .before .before .before .before .before .before .before .before .before .before .before .before .before .args .last)) (c .before .before .before .before .before .before .before .before .before .before .before .before .before .before .pre .1 .start-is) (c .before .before .before .before .before .before .before .before .before .before .before .before .before .before .pre .1 .count-is) (bodies-count (c .before .before .before .before .before .before .before .before .before .before .before .before .before .before .args .batch .now) ∙ sym (count-is (c .before .before .before .before .before .before .before .before .before .before .before .before .before .before .args .batch .now) (c .before .before .before .before .before .before .before .before .before .u32-at .result) (c .before .before .before .before .before .before .before .before .before .u32-at .ensures))) (c .before .before .before .before .before .before .before .before .before .before .before .before .before .before .pre .1 .next-is) in
-    let ov : ltb (2 ^ 64 - 1) (manifestId (opened (take (c .before .before .before .before .before .before .before .before .before .before .before .before .before .before .args .start) (c .before .before .before .before .before .before .before .before .before .before .before .before .before .before .args .buf .now))) (bodiesOf (c .before .before .before .before .before .before .before .before .before .before .before .before .before .before .args .batch .now))) ≡ false = ap (ltb (2 ^ 64 - 1)) (sym i) ∙ sym (c .before .before .before .before .before .before .before .ids-over .ensures) ∙ c .before .before .before .before .before .before .if2 .left in
-    let fit : nextOf (c .before .before .before .before .before .before .before .before .before .before .before .before .before .before .args .first) (c .before .before .before .before .before .before .before .before .before .before .before .before .before .before .args .last) + c .before .before .before .before .before .before .before .before .before .u32-at .result ≤ 2 ^ 64 - 1 = ltb-false (2 ^ 64 - 1) (nextOf (c .before .before .before .before .before .before .before .before .before .before .before .before .before .before .args .first) (c .before .before .before .before .before .before .before .before .before .before .before .before .before .before .args .last) + c .before .before .before .before .before .before .before .before .before .u32-at .result) (sym (c .before .before .before .before .before .before .before .ids-over .ensures) ∙ c .before .before .before .before .before .before .if2 .left) in
-    let e : c .before .before .before .before .bodies-end .result + 64 + c .before .before .round-up2 .result ≡ newEnd (opened (take (c .before .before .before .before .before .before .before .before .before .before .before .before .before .before .args .start) (c .before .before .before .before .before .before .before .before .before .before .before .before .before .before .args .buf .now))) (bodiesOf (c .before .before .before .before .before .before .before .before .before .before .before .before .before .before .args .batch .now)) = end-number (opened (take (c .before .before .before .before .before .before .before .before .before .before .before .before .before .before .args .start) (c .before .before .before .before .before .before .before .before .before .before .before .before .before .before .args .buf .now))) (bodiesOf (c .before .before .before .before .before .before .before .before .before .before .before .before .before .before .args .batch .now)) (c .before .before .before .before .before .before .before .before .before .before .before .before .before .before .args .start) (c .before .before .before .before .before .before .before .before .before .before .before .before .before .before .args .kept) (c .before .before .before .before .before .before .before .before .before .u32-at .result) (nextOf (c .before .before .before .before .before .before .before .before .before .before .before .before .before .before .args .first) (c .before .before .before .before .before .before .before .before .before .before .before .before .before .before .args .last)) (c .before .before .before .before .before .before .before .before .before .before .before .before .before .before .pre .1 .start-is) (c .before .before .before .before .before .before .before .before .before .before .before .before .before .before .pre .1 .count-is) (bodies-count (c .before .before .before .before .before .before .before .before .before .before .before .before .before .before .args .batch .now) ∙ sym (count-is (c .before .before .before .before .before .before .before .before .before .before .before .before .before .before .args .batch .now) (c .before .before .before .before .before .before .before .before .before .u32-at .result) (c .before .before .before .before .before .before .before .before .before .u32-at .ensures))) (c .before .before .before .before .before .before .before .before .before .before .before .before .before .before .pre .1 .next-is) _ _ _ (c .before .before .before .before .bodies-end .ensures) (c .before .before .before .round-up .ensures) (c .before .before .round-up2 .ensures) in
-    late-room _ _ _ _ _ (omega (arith, cn)) ov (omega (arith, e)) (omega (arith, e))
+    let r = c .before .before in
+    let e2 = r .before .before .before .before in
+    late-room _ _ _ _ _ (omega (arith, count-new (u e2))) (id-enough e2) (omega (arith, end-new r)) (omega (arith, end-new r))
 
 add-id : tie.Need-add-id
 add-id c =
-    let i : nextOf (c .before .before .before .before .before .before .before .before .before .before .before .before .before .before .args .first) (c .before .before .before .before .before .before .before .before .before .before .before .before .before .before .args .last) + c .before .before .before .before .before .before .before .before .before .u32-at .result ≡ manifestId (opened (take (c .before .before .before .before .before .before .before .before .before .before .before .before .before .before .args .start) (c .before .before .before .before .before .before .before .before .before .before .before .before .before .before .args .buf .now))) (bodiesOf (c .before .before .before .before .before .before .before .before .before .before .before .before .before .before .args .batch .now)) = id-number (opened (take (c .before .before .before .before .before .before .before .before .before .before .before .before .before .before .args .start) (c .before .before .before .before .before .before .before .before .before .before .before .before .before .before .args .buf .now))) (bodiesOf (c .before .before .before .before .before .before .before .before .before .before .before .before .before .before .args .batch .now)) (c .before .before .before .before .before .before .before .before .before .before .before .before .before .before .args .start) (c .before .before .before .before .before .before .before .before .before .before .before .before .before .before .args .kept) (c .before .before .before .before .before .before .before .before .before .u32-at .result) (nextOf (c .before .before .before .before .before .before .before .before .before .before .before .before .before .before .args .first) (c .before .before .before .before .before .before .before .before .before .before .before .before .before .before .args .last)) (c .before .before .before .before .before .before .before .before .before .before .before .before .before .before .pre .1 .start-is) (c .before .before .before .before .before .before .before .before .before .before .before .before .before .before .pre .1 .count-is) (bodies-count (c .before .before .before .before .before .before .before .before .before .before .before .before .before .before .args .batch .now) ∙ sym (count-is (c .before .before .before .before .before .before .before .before .before .before .before .before .before .before .args .batch .now) (c .before .before .before .before .before .before .before .before .before .u32-at .result) (c .before .before .before .before .before .before .before .before .before .u32-at .ensures))) (c .before .before .before .before .before .before .before .before .before .before .before .before .before .before .pre .1 .next-is) in
-    let ov : ltb (2 ^ 64 - 1) (manifestId (opened (take (c .before .before .before .before .before .before .before .before .before .before .before .before .before .before .args .start) (c .before .before .before .before .before .before .before .before .before .before .before .before .before .before .args .buf .now))) (bodiesOf (c .before .before .before .before .before .before .before .before .before .before .before .before .before .before .args .batch .now))) ≡ false = ap (ltb (2 ^ 64 - 1)) (sym i) ∙ sym (c .before .before .before .before .before .before .before .ids-over .ensures) ∙ c .before .before .before .before .before .before .if2 .left in
-    let fit : nextOf (c .before .before .before .before .before .before .before .before .before .before .before .before .before .before .args .first) (c .before .before .before .before .before .before .before .before .before .before .before .before .before .before .args .last) + c .before .before .before .before .before .before .before .before .before .u32-at .result ≤ 2 ^ 64 - 1 = ltb-false (2 ^ 64 - 1) (nextOf (c .before .before .before .before .before .before .before .before .before .before .before .before .before .before .args .first) (c .before .before .before .before .before .before .before .before .before .before .before .before .before .before .args .last) + c .before .before .before .before .before .before .before .before .before .u32-at .result) (sym (c .before .before .before .before .before .before .before .ids-over .ensures) ∙ c .before .before .before .before .before .before .if2 .left) in
-    omega (arith, c .before .before .before .before .before .next-id .ensures)
+    let n = c .before .before .before .before .before in
+    omega (arith, n .next-id .ensures, id-fits (n .before))
 
 put-bodies-requires : tie.Need-put-bodies-requires
 put-bodies-requires c κs =
-    let q = held-bounds (c .before .before .before .before .before .before .before .before .before .before .before .before .before .before .before .before .args .batch .now) (c .before .before .before .before .before .before .before .before .before .before .before .before .before .before .before .before .pre .0 .0) in
-    let m-is = count-is (c .before .before .before .before .before .before .before .before .before .before .before .before .before .before .before .before .args .batch .now) (c .before .before .before .before .before .before .before .before .before .before .before .u32-at .result) (c .before .before .before .before .before .before .before .before .before .before .before .u32-at .ensures) in
-    let i : nextOf (c .before .before .before .before .before .before .before .before .before .before .before .before .before .before .before .before .args .first) (c .before .before .before .before .before .before .before .before .before .before .before .before .before .before .before .before .args .last) + c .before .before .before .before .before .before .before .before .before .before .before .u32-at .result ≡ manifestId (opened (take (c .before .before .before .before .before .before .before .before .before .before .before .before .before .before .before .before .args .start) (c .before .before .before .before .before .before .before .before .before .before .before .before .before .before .before .before .args .buf .now))) (bodiesOf (c .before .before .before .before .before .before .before .before .before .before .before .before .before .before .before .before .args .batch .now)) = id-number (opened (take (c .before .before .before .before .before .before .before .before .before .before .before .before .before .before .before .before .args .start) (c .before .before .before .before .before .before .before .before .before .before .before .before .before .before .before .before .args .buf .now))) (bodiesOf (c .before .before .before .before .before .before .before .before .before .before .before .before .before .before .before .before .args .batch .now)) (c .before .before .before .before .before .before .before .before .before .before .before .before .before .before .before .before .args .start) (c .before .before .before .before .before .before .before .before .before .before .before .before .before .before .before .before .args .kept) (c .before .before .before .before .before .before .before .before .before .before .before .u32-at .result) (nextOf (c .before .before .before .before .before .before .before .before .before .before .before .before .before .before .before .before .args .first) (c .before .before .before .before .before .before .before .before .before .before .before .before .before .before .before .before .args .last)) (c .before .before .before .before .before .before .before .before .before .before .before .before .before .before .before .before .pre .1 .start-is) (c .before .before .before .before .before .before .before .before .before .before .before .before .before .before .before .before .pre .1 .count-is) (bodies-count (c .before .before .before .before .before .before .before .before .before .before .before .before .before .before .before .before .args .batch .now) ∙ sym (count-is (c .before .before .before .before .before .before .before .before .before .before .before .before .before .before .before .before .args .batch .now) (c .before .before .before .before .before .before .before .before .before .before .before .u32-at .result) (c .before .before .before .before .before .before .before .before .before .before .before .u32-at .ensures))) (c .before .before .before .before .before .before .before .before .before .before .before .before .before .before .before .before .pre .1 .next-is) in
-    let ov : ltb (2 ^ 64 - 1) (manifestId (opened (take (c .before .before .before .before .before .before .before .before .before .before .before .before .before .before .before .before .args .start) (c .before .before .before .before .before .before .before .before .before .before .before .before .before .before .before .before .args .buf .now))) (bodiesOf (c .before .before .before .before .before .before .before .before .before .before .before .before .before .before .before .before .args .batch .now))) ≡ false = ap (ltb (2 ^ 64 - 1)) (sym i) ∙ sym (c .before .before .before .before .before .before .before .before .before .ids-over .ensures) ∙ c .before .before .before .before .before .before .before .before .if2 .left in
-    let fit : nextOf (c .before .before .before .before .before .before .before .before .before .before .before .before .before .before .before .before .args .first) (c .before .before .before .before .before .before .before .before .before .before .before .before .before .before .before .before .args .last) + c .before .before .before .before .before .before .before .before .before .before .before .u32-at .result ≤ 2 ^ 64 - 1 = ltb-false (2 ^ 64 - 1) (nextOf (c .before .before .before .before .before .before .before .before .before .before .before .before .before .before .before .before .args .first) (c .before .before .before .before .before .before .before .before .before .before .before .before .before .before .before .before .args .last) + c .before .before .before .before .before .before .before .before .before .before .before .u32-at .result) (sym (c .before .before .before .before .before .before .before .before .before .ids-over .ensures) ∙ c .before .before .before .before .before .before .before .before .if2 .left) in
-    ((c .before .before .before .before .before .before .before .before .before .before .before .before .before .before .before .before .pre .0 .0, omega (arith, c .before .before .before .before .before .before .bodies-end .ensures)), (omega (arith, c .before .before .before .before .before .before .before .next-id .ensures, m-is), omega (arith, m-is, c .before .before .before .before .before .before .before .before .before .before .before .before .before .before .before .before .pre .0 .1 .0)))
-
-slice-reshare-prefix-put-manifest : tie.Need-slice-reshare-prefix-put-manifest
-slice-reshare-prefix-put-manifest c = search needs
+    let b = c .before .before .before .before .before .before in
+    let n = b .before in
+    let u = u (n .before) in
+    let m-is = count-is (s u .args .batch .now) (m u) (u .u32-at .ensures) in (
+      (s u .pre .0 .0, omega (arith, b .bodies-end .ensures)),
+      (omega (arith, n .next-id .ensures, id-fits (n .before), m-is), omega (arith, m-is, s u .pre .0 .1 .0)),
+    )
 
 slice-aggregate-put-manifest : tie.Need-slice-aggregate-put-manifest
-slice-aggregate-put-manifest c =
-    let os-long : c .before .before .before .before .before .before .before .before .before .before .before .before .before .before .before .before .before .before .before .before .before .before .before .args .kept + c .before .before .before .before .before .before .before .before .before .before .before .before .before .before .before .before .before .before .u32-at .result ≤ length (c .before .before .before .before .before .before .put-bodies .last .1 .1 .1 .1 .1 .0) = omega (arith, c .before .before .before .before .before .before .put-bodies .kept .1 .1 .1 .1 .1 .0, c .before .before .before .before .before .before .before .before .before .before .before .before .before .before .before .before .before .before .before .before .before .before .before .pre .0 .1 .0) in
-    let os-count = length-take-le (c .before .before .before .before .before .before .before .before .before .before .before .before .before .before .before .before .before .before .before .before .before .before .before .args .kept + c .before .before .before .before .before .before .before .before .before .before .before .before .before .before .before .before .before .before .u32-at .result) (c .before .before .before .before .before .before .put-bodies .last .1 .1 .1 .1 .1 .0) os-long in
-    let ss-long : c .before .before .before .before .before .before .before .before .before .before .before .before .before .before .before .before .before .before .before .before .before .before .before .args .kept + c .before .before .before .before .before .before .before .before .before .before .before .before .before .before .before .before .before .before .u32-at .result ≤ length (c .before .before .before .before .before .before .before .before .before .before .before .before .before .before .before .before .before .before .before .before .before .before .before .args .states .now) = omega (arith, c .before .before .before .before .before .before .before .before .before .before .before .before .before .before .before .before .before .before .before .before .before .before .before .pre .0 .1 .1) in
-    let ss-count = length-take-le (c .before .before .before .before .before .before .before .before .before .before .before .before .before .before .before .before .before .before .before .before .before .before .before .args .kept + c .before .before .before .before .before .before .before .before .before .before .before .before .before .before .before .before .before .before .u32-at .result) (c .before .before .before .before .before .before .before .before .before .before .before .before .before .before .before .before .before .before .before .before .before .before .before .args .states .now) ss-long in
-    sym os-count
+slice-aggregate-put-manifest c = sym (offsets-count (c .before .before .before .before .before .before))
 
 slice-aggregate-put-manifest-2 : tie.Need-slice-aggregate-put-manifest-2
-slice-aggregate-put-manifest-2 c =
-    let os-long : c .before .before .before .before .before .before .before .before .before .before .before .before .before .before .before .before .before .before .before .before .before .before .before .before .args .kept + c .before .before .before .before .before .before .before .before .before .before .before .before .before .before .before .before .before .before .before .u32-at .result ≤ length (c .before .before .before .before .before .before .before .put-bodies .last .1 .1 .1 .1 .1 .0) = omega (arith, c .before .before .before .before .before .before .before .put-bodies .kept .1 .1 .1 .1 .1 .0, c .before .before .before .before .before .before .before .before .before .before .before .before .before .before .before .before .before .before .before .before .before .before .before .before .pre .0 .1 .0) in
-    let os-count = length-take-le (c .before .before .before .before .before .before .before .before .before .before .before .before .before .before .before .before .before .before .before .before .before .before .before .before .args .kept + c .before .before .before .before .before .before .before .before .before .before .before .before .before .before .before .before .before .before .before .u32-at .result) (c .before .before .before .before .before .before .before .put-bodies .last .1 .1 .1 .1 .1 .0) os-long in
-    let ss-long : c .before .before .before .before .before .before .before .before .before .before .before .before .before .before .before .before .before .before .before .before .before .before .before .before .args .kept + c .before .before .before .before .before .before .before .before .before .before .before .before .before .before .before .before .before .before .before .u32-at .result ≤ length (c .before .before .before .before .before .before .before .before .before .before .before .before .before .before .before .before .before .before .before .before .before .before .before .before .args .states .now) = omega (arith, c .before .before .before .before .before .before .before .before .before .before .before .before .before .before .before .before .before .before .before .before .before .before .before .before .pre .0 .1 .1) in
-    let ss-count = length-take-le (c .before .before .before .before .before .before .before .before .before .before .before .before .before .before .before .before .before .before .before .before .before .before .before .before .args .kept + c .before .before .before .before .before .before .before .before .before .before .before .before .before .before .before .before .before .before .before .u32-at .result) (c .before .before .before .before .before .before .before .before .before .before .before .before .before .before .before .before .before .before .before .before .before .before .before .before .args .states .now) ss-long in
-    sym ss-count
+slice-aggregate-put-manifest-2 c = sym (states-count (c .before .before .before .before .before .before .before))
 
 put-manifest-requires : tie.Need-put-manifest-requires
 put-manifest-requires c κs =
-    let q = held-bounds (c .before .before .before .before .before .before .before .before .before .before .before .before .before .before .before .before .before .before .before .before .before .before .before .before .args .batch .now) (c .before .before .before .before .before .before .before .before .before .before .before .before .before .before .before .before .before .before .before .before .before .before .before .before .pre .0 .0) in
-    let m-is = count-is (c .before .before .before .before .before .before .before .before .before .before .before .before .before .before .before .before .before .before .before .before .before .before .before .before .args .batch .now) (c .before .before .before .before .before .before .before .before .before .before .before .before .before .before .before .before .before .before .before .u32-at .result) (c .before .before .before .before .before .before .before .before .before .before .before .before .before .before .before .before .before .before .before .u32-at .ensures) in
-    let i : nextOf (c .before .before .before .before .before .before .before .before .before .before .before .before .before .before .before .before .before .before .before .before .before .before .before .before .args .first) (c .before .before .before .before .before .before .before .before .before .before .before .before .before .before .before .before .before .before .before .before .before .before .before .before .args .last) + c .before .before .before .before .before .before .before .before .before .before .before .before .before .before .before .before .before .before .before .u32-at .result ≡ manifestId (opened (take (c .before .before .before .before .before .before .before .before .before .before .before .before .before .before .before .before .before .before .before .before .before .before .before .before .args .start) (c .before .before .before .before .before .before .before .before .before .before .before .before .before .before .before .before .before .before .before .before .before .before .before .before .args .buf .now))) (bodiesOf (c .before .before .before .before .before .before .before .before .before .before .before .before .before .before .before .before .before .before .before .before .before .before .before .before .args .batch .now)) = id-number (opened (take (c .before .before .before .before .before .before .before .before .before .before .before .before .before .before .before .before .before .before .before .before .before .before .before .before .args .start) (c .before .before .before .before .before .before .before .before .before .before .before .before .before .before .before .before .before .before .before .before .before .before .before .before .args .buf .now))) (bodiesOf (c .before .before .before .before .before .before .before .before .before .before .before .before .before .before .before .before .before .before .before .before .before .before .before .before .args .batch .now)) (c .before .before .before .before .before .before .before .before .before .before .before .before .before .before .before .before .before .before .before .before .before .before .before .before .args .start) (c .before .before .before .before .before .before .before .before .before .before .before .before .before .before .before .before .before .before .before .before .before .before .before .before .args .kept) (c .before .before .before .before .before .before .before .before .before .before .before .before .before .before .before .before .before .before .before .u32-at .result) (nextOf (c .before .before .before .before .before .before .before .before .before .before .before .before .before .before .before .before .before .before .before .before .before .before .before .before .args .first) (c .before .before .before .before .before .before .before .before .before .before .before .before .before .before .before .before .before .before .before .before .before .before .before .before .args .last)) (c .before .before .before .before .before .before .before .before .before .before .before .before .before .before .before .before .before .before .before .before .before .before .before .before .pre .1 .start-is) (c .before .before .before .before .before .before .before .before .before .before .before .before .before .before .before .before .before .before .before .before .before .before .before .before .pre .1 .count-is) (bodies-count (c .before .before .before .before .before .before .before .before .before .before .before .before .before .before .before .before .before .before .before .before .before .before .before .before .args .batch .now) ∙ sym (count-is (c .before .before .before .before .before .before .before .before .before .before .before .before .before .before .before .before .before .before .before .before .before .before .before .before .args .batch .now) (c .before .before .before .before .before .before .before .before .before .before .before .before .before .before .before .before .before .before .before .u32-at .result) (c .before .before .before .before .before .before .before .before .before .before .before .before .before .before .before .before .before .before .before .u32-at .ensures))) (c .before .before .before .before .before .before .before .before .before .before .before .before .before .before .before .before .before .before .before .before .before .before .before .before .pre .1 .next-is) in
-    let ov : ltb (2 ^ 64 - 1) (manifestId (opened (take (c .before .before .before .before .before .before .before .before .before .before .before .before .before .before .before .before .before .before .before .before .before .before .before .before .args .start) (c .before .before .before .before .before .before .before .before .before .before .before .before .before .before .before .before .before .before .before .before .before .before .before .before .args .buf .now))) (bodiesOf (c .before .before .before .before .before .before .before .before .before .before .before .before .before .before .before .before .before .before .before .before .before .before .before .before .args .batch .now))) ≡ false = ap (ltb (2 ^ 64 - 1)) (sym i) ∙ sym (c .before .before .before .before .before .before .before .before .before .before .before .before .before .before .before .before .before .ids-over .ensures) ∙ c .before .before .before .before .before .before .before .before .before .before .before .before .before .before .before .before .if2 .left in
-    let fit : nextOf (c .before .before .before .before .before .before .before .before .before .before .before .before .before .before .before .before .before .before .before .before .before .before .before .before .args .first) (c .before .before .before .before .before .before .before .before .before .before .before .before .before .before .before .before .before .before .before .before .before .before .before .before .args .last) + c .before .before .before .before .before .before .before .before .before .before .before .before .before .before .before .before .before .before .before .u32-at .result ≤ 2 ^ 64 - 1 = ltb-false (2 ^ 64 - 1) (nextOf (c .before .before .before .before .before .before .before .before .before .before .before .before .before .before .before .before .before .before .before .before .before .before .before .before .args .first) (c .before .before .before .before .before .before .before .before .before .before .before .before .before .before .before .before .before .before .before .before .before .before .before .before .args .last) + c .before .before .before .before .before .before .before .before .before .before .before .before .before .before .before .before .before .before .before .u32-at .result) (sym (c .before .before .before .before .before .before .before .before .before .before .before .before .before .before .before .before .before .ids-over .ensures) ∙ c .before .before .before .before .before .before .before .before .before .before .before .before .before .before .before .before .if2 .left) in
-    let os-long : c .before .before .before .before .before .before .before .before .before .before .before .before .before .before .before .before .before .before .before .before .before .before .before .before .args .kept + c .before .before .before .before .before .before .before .before .before .before .before .before .before .before .before .before .before .before .before .u32-at .result ≤ length (c .before .before .before .before .before .before .before .put-bodies .last .1 .1 .1 .1 .1 .0) = omega (arith, c .before .before .before .before .before .before .before .put-bodies .kept .1 .1 .1 .1 .1 .0, c .before .before .before .before .before .before .before .before .before .before .before .before .before .before .before .before .before .before .before .before .before .before .before .before .pre .0 .1 .0) in
-    let os-count = length-take-le (c .before .before .before .before .before .before .before .before .before .before .before .before .before .before .before .before .before .before .before .before .before .before .before .before .args .kept + c .before .before .before .before .before .before .before .before .before .before .before .before .before .before .before .before .before .before .before .u32-at .result) (c .before .before .before .before .before .before .before .put-bodies .last .1 .1 .1 .1 .1 .0) os-long in
-    let ss-long : c .before .before .before .before .before .before .before .before .before .before .before .before .before .before .before .before .before .before .before .before .before .before .before .before .args .kept + c .before .before .before .before .before .before .before .before .before .before .before .before .before .before .before .before .before .before .before .u32-at .result ≤ length (c .before .before .before .before .before .before .before .before .before .before .before .before .before .before .before .before .before .before .before .before .before .before .before .before .args .states .now) = omega (arith, c .before .before .before .before .before .before .before .before .before .before .before .before .before .before .before .before .before .before .before .before .before .before .before .before .pre .0 .1 .1) in
-    let ss-count = length-take-le (c .before .before .before .before .before .before .before .before .before .before .before .before .before .before .before .before .before .before .before .before .before .before .before .before .args .kept + c .before .before .before .before .before .before .before .before .before .before .before .before .before .before .before .before .before .before .before .u32-at .result) (c .before .before .before .before .before .before .before .before .before .before .before .before .before .before .before .before .before .before .before .before .before .before .before .before .args .states .now) ss-long in
-    let pr = payload-round (c .before .before .before .before .before .before .before .before .before .before .before .before .before .before .before .before .before .before .before .before .before .before .before .before .args .kept + c .before .before .before .before .before .before .before .before .before .before .before .before .before .before .before .before .before .before .before .u32-at .result) _ _ (c .before .before .before .before .before .before .before .before .before .before .before .before .before .round-up .ensures) (c .before .before .before .before .before .before .before .before .before .before .before .before .round-up2 .ensures) in
-    let pl : round64 (payloadLength (length (take (c .before .before .before .before .before .before .before .before .before .before .before .before .before .before .before .before .before .before .before .before .before .before .before .before .args .kept + c .before .before .before .before .before .before .before .before .before .before .before .before .before .before .before .before .before .before .before .u32-at .result) (c .before .before .before .before .before .before .before .put-bodies .last .1 .1 .1 .1 .1 .0)))) ≡ round64 (payloadLength (c .before .before .before .before .before .before .before .before .before .before .before .before .before .before .before .before .before .before .before .before .before .before .before .before .args .kept + c .before .before .before .before .before .before .before .before .before .before .before .before .before .before .before .before .before .before .before .u32-at .result)) = ap (λ (n : ℕ). round64 (payloadLength n)) os-count in
-    ((omega (arith, os-count), omega (arith, os-count, ss-count)), ((omega (arith, pl, pr, c .before .before .before .before .before .before .before .put-bodies .kept .0), omega arith), written-inside (c .before .before .before .before .before .before .before .before .before .before .before .before .before .before .before .before .before .before .before .before .before .before .before .before .args .buf .now) (c .before .before .before .before .before .before .before .before .before .before .before .before .before .before .before .before .before .before .before .before .before .before .before .before .args .offsets .now) (c .before .before .before .before .before .before .before .before .before .before .before .before .before .before .before .before .before .before .before .before .before .before .before .before .args .batch .now) (c .before .before .before .before .before .before .before .before .before .before .before .before .before .before .before .before .before .before .before .before .before .before .before .before .args .start) (c .before .before .before .before .before .before .before .before .before .before .before .before .before .before .before .before .before .before .before .before .before .before .before .before .args .kept) (c .before .before .before .before .before .before .before .before .before .before .before .before .before .before .before .before .before .before .before .before .before .before .before .before .args .first) (c .before .before .before .before .before .before .before .before .before .before .before .before .before .before .before .before .before .before .before .before .before .before .before .before .args .last) (c .before .before .before .before .before .before .before .before .before .before .before .before .before .before .before .before .before .before .before .before .before .before .before .before .pre .1) (c .before .before .before .before .before .before .before .before .before .before .before .before .before .before .before .before .before .before .before .before .before .before .before .before .pre .0 .0) (c .before .before .before .before .before .before .before .before .before .before .before .before .before .before .before .before .before .before .before .before .before .before .before .before .args .timestamp) (c .before .before .before .before .before .before .before .before .before .before .before .before .before .before .before .before .before .before .before .before .before .before .before .before .fits .timestamp .fits) (c .before .before .before .before .before .before .before .before .before .before .before .before .before .before .before .next-id .result) (c .before .before .before .before .before .before .before .before .before .before .before .before .before .before .before .before .before .before .before .u32-at .result) (c .before .before .before .before .before .before .before .before .before .before .before .before .before .before .before .next-id .ensures) m-is (omega (arith, c .before .before .before .before .before .before .before .before .before .before .before .before .before .before .before .next-id .ensures, fit)) (c .before .before .before .before .before .before .before .before .before .before .before .before .before .before .bodies-end .result) (c .before .before .before .before .before .before .before .before .before .before .before .before .before .before .bodies-end .ensures) (omega arith) (omega arith) (omega (arith, c .before .before .before .before .before .before .before .before .before .before .before .before .before .before .before .before .before .before .before .before .before .before .before .before .pre .0 .1 .0)) (c .before .before .before .before .before .before .before .put-bodies .last .0) (c .before .before .before .before .before .before .before .put-bodies .last .1 .1 .1 .1 .1 .0) (c .before .before .before .before .before .before .before .put-bodies .ensures .0) (c .before .before .before .before .before .before .before .put-bodies .ensures .1)))
-
-same-length : tie.Need-same-length
-same-length c = search needs
-
-same-length-2 : tie.Need-same-length-2
-same-length-2 c = search needs
+    let p = c .before .before .before .before .before .before .before in
+    let s = s (v p) in
+    let os-count = offsets-count p in
+    let pr = payload-round (all p) _ _ (r p .before .round-up .ensures) (r p .round-up2 .ensures) in
+    let pl : round64 (payloadLength (length (take (all p) (p .put-bodies .last .1 .1 .1 .1 .1 .0)))) ≡ round64 (payloadLength (all p)) =
+    ap (λ (n : ℕ). round64 (payloadLength n)) os-count in (
+      (omega (arith, os-count, few p), omega (arith, os-count, states-count p)),
+      (
+        (omega (arith, pl, pr, p .put-bodies .kept .0), omega arith),
+        written-inside (s .args .buf .now) (s .args .offsets .now) (s .args .batch .now) (s .args .start)
+            (s .args .kept) (s .args .first) (s .args .last)
+            (s .pre .1) (s .pre .0 .0) (s .args .timestamp) (s .fits .timestamp .fits) (n p .next-id .result) (m (v p)) (n p .next-id .ensures)
+            (count-is (s .args .batch .now) (m (v p)) (v p .u32-at .ensures)) (ids-fit p) (b p .bodies-end .result) (b p .bodies-end .ensures)
+            (omega arith) (omega arith) (omega (arith, few p, s .pre .0 .1 .0))
+            (p .put-bodies .last .0) (p .put-bodies .last .1 .1 .1 .1 .1 .0) (p .put-bodies .ensures .0) (p .put-bodies .ensures .1),
+      ),
+    )
 
 returns-5 : tie.Need-returns-5
 returns-5 c =
-    let q = held-bounds (c .before .before .before .before .before .before .before .before .before .before .before .before .before .before .before .before .before .before .before .before .before .before .before .before .before .before .before .args .batch .now) (c .before .before .before .before .before .before .before .before .before .before .before .before .before .before .before .before .before .before .before .before .before .before .before .before .before .before .before .pre .0 .0) in
-    let m-is = count-is (c .before .before .before .before .before .before .before .before .before .before .before .before .before .before .before .before .before .before .before .before .before .before .before .before .before .before .before .args .batch .now) (c .before .before .before .before .before .before .before .before .before .before .before .before .before .before .before .before .before .before .before .before .before .before .u32-at .result) (c .before .before .before .before .before .before .before .before .before .before .before .before .before .before .before .before .before .before .before .before .before .before .u32-at .ensures) in
-    let cn : c .before .before .before .before .before .before .before .before .before .before .before .before .before .before .before .before .before .before .before .before .before .before .before .before .before .before .before .args .kept + c .before .before .before .before .before .before .before .before .before .before .before .before .before .before .before .before .before .before .before .before .before .before .u32-at .result ≡ newCount (opened (take (c .before .before .before .before .before .before .before .before .before .before .before .before .before .before .before .before .before .before .before .before .before .before .before .before .before .before .before .args .start) (c .before .before .before .before .before .before .before .before .before .before .before .before .before .before .before .before .before .before .before .before .before .before .before .before .before .before .before .args .buf .now))) (bodiesOf (c .before .before .before .before .before .before .before .before .before .before .before .before .before .before .before .before .before .before .before .before .before .before .before .before .before .before .before .args .batch .now)) = count-number (opened (take (c .before .before .before .before .before .before .before .before .before .before .before .before .before .before .before .before .before .before .before .before .before .before .before .before .before .before .before .args .start) (c .before .before .before .before .before .before .before .before .before .before .before .before .before .before .before .before .before .before .before .before .before .before .before .before .before .before .before .args .buf .now))) (bodiesOf (c .before .before .before .before .before .before .before .before .before .before .before .before .before .before .before .before .before .before .before .before .before .before .before .before .before .before .before .args .batch .now)) (c .before .before .before .before .before .before .before .before .before .before .before .before .before .before .before .before .before .before .before .before .before .before .before .before .before .before .before .args .start) (c .before .before .before .before .before .before .before .before .before .before .before .before .before .before .before .before .before .before .before .before .before .before .before .before .before .before .before .args .kept) (c .before .before .before .before .before .before .before .before .before .before .before .before .before .before .before .before .before .before .before .before .before .before .u32-at .result) (nextOf (c .before .before .before .before .before .before .before .before .before .before .before .before .before .before .before .before .before .before .before .before .before .before .before .before .before .before .before .args .first) (c .before .before .before .before .before .before .before .before .before .before .before .before .before .before .before .before .before .before .before .before .before .before .before .before .before .before .before .args .last)) (c .before .before .before .before .before .before .before .before .before .before .before .before .before .before .before .before .before .before .before .before .before .before .before .before .before .before .before .pre .1 .start-is) (c .before .before .before .before .before .before .before .before .before .before .before .before .before .before .before .before .before .before .before .before .before .before .before .before .before .before .before .pre .1 .count-is) (bodies-count (c .before .before .before .before .before .before .before .before .before .before .before .before .before .before .before .before .before .before .before .before .before .before .before .before .before .before .before .args .batch .now) ∙ sym (count-is (c .before .before .before .before .before .before .before .before .before .before .before .before .before .before .before .before .before .before .before .before .before .before .before .before .before .before .before .args .batch .now) (c .before .before .before .before .before .before .before .before .before .before .before .before .before .before .before .before .before .before .before .before .before .before .u32-at .result) (c .before .before .before .before .before .before .before .before .before .before .before .before .before .before .before .before .before .before .before .before .before .before .u32-at .ensures))) (c .before .before .before .before .before .before .before .before .before .before .before .before .before .before .before .before .before .before .before .before .before .before .before .before .before .before .before .pre .1 .next-is) in
-    let i : nextOf (c .before .before .before .before .before .before .before .before .before .before .before .before .before .before .before .before .before .before .before .before .before .before .before .before .before .before .before .args .first) (c .before .before .before .before .before .before .before .before .before .before .before .before .before .before .before .before .before .before .before .before .before .before .before .before .before .before .before .args .last) + c .before .before .before .before .before .before .before .before .before .before .before .before .before .before .before .before .before .before .before .before .before .before .u32-at .result ≡ manifestId (opened (take (c .before .before .before .before .before .before .before .before .before .before .before .before .before .before .before .before .before .before .before .before .before .before .before .before .before .before .before .args .start) (c .before .before .before .before .before .before .before .before .before .before .before .before .before .before .before .before .before .before .before .before .before .before .before .before .before .before .before .args .buf .now))) (bodiesOf (c .before .before .before .before .before .before .before .before .before .before .before .before .before .before .before .before .before .before .before .before .before .before .before .before .before .before .before .args .batch .now)) = id-number (opened (take (c .before .before .before .before .before .before .before .before .before .before .before .before .before .before .before .before .before .before .before .before .before .before .before .before .before .before .before .args .start) (c .before .before .before .before .before .before .before .before .before .before .before .before .before .before .before .before .before .before .before .before .before .before .before .before .before .before .before .args .buf .now))) (bodiesOf (c .before .before .before .before .before .before .before .before .before .before .before .before .before .before .before .before .before .before .before .before .before .before .before .before .before .before .before .args .batch .now)) (c .before .before .before .before .before .before .before .before .before .before .before .before .before .before .before .before .before .before .before .before .before .before .before .before .before .before .before .args .start) (c .before .before .before .before .before .before .before .before .before .before .before .before .before .before .before .before .before .before .before .before .before .before .before .before .before .before .before .args .kept) (c .before .before .before .before .before .before .before .before .before .before .before .before .before .before .before .before .before .before .before .before .before .before .u32-at .result) (nextOf (c .before .before .before .before .before .before .before .before .before .before .before .before .before .before .before .before .before .before .before .before .before .before .before .before .before .before .before .args .first) (c .before .before .before .before .before .before .before .before .before .before .before .before .before .before .before .before .before .before .before .before .before .before .before .before .before .before .before .args .last)) (c .before .before .before .before .before .before .before .before .before .before .before .before .before .before .before .before .before .before .before .before .before .before .before .before .before .before .before .pre .1 .start-is) (c .before .before .before .before .before .before .before .before .before .before .before .before .before .before .before .before .before .before .before .before .before .before .before .before .before .before .before .pre .1 .count-is) (bodies-count (c .before .before .before .before .before .before .before .before .before .before .before .before .before .before .before .before .before .before .before .before .before .before .before .before .before .before .before .args .batch .now) ∙ sym (count-is (c .before .before .before .before .before .before .before .before .before .before .before .before .before .before .before .before .before .before .before .before .before .before .before .before .before .before .before .args .batch .now) (c .before .before .before .before .before .before .before .before .before .before .before .before .before .before .before .before .before .before .before .before .before .before .u32-at .result) (c .before .before .before .before .before .before .before .before .before .before .before .before .before .before .before .before .before .before .before .before .before .before .u32-at .ensures))) (c .before .before .before .before .before .before .before .before .before .before .before .before .before .before .before .before .before .before .before .before .before .before .before .before .before .before .before .pre .1 .next-is) in
-    let ov : ltb (2 ^ 64 - 1) (manifestId (opened (take (c .before .before .before .before .before .before .before .before .before .before .before .before .before .before .before .before .before .before .before .before .before .before .before .before .before .before .before .args .start) (c .before .before .before .before .before .before .before .before .before .before .before .before .before .before .before .before .before .before .before .before .before .before .before .before .before .before .before .args .buf .now))) (bodiesOf (c .before .before .before .before .before .before .before .before .before .before .before .before .before .before .before .before .before .before .before .before .before .before .before .before .before .before .before .args .batch .now))) ≡ false = ap (ltb (2 ^ 64 - 1)) (sym i) ∙ sym (c .before .before .before .before .before .before .before .before .before .before .before .before .before .before .before .before .before .before .before .before .ids-over .ensures) ∙ c .before .before .before .before .before .before .before .before .before .before .before .before .before .before .before .before .before .before .before .if2 .left in
-    let fit : nextOf (c .before .before .before .before .before .before .before .before .before .before .before .before .before .before .before .before .before .before .before .before .before .before .before .before .before .before .before .args .first) (c .before .before .before .before .before .before .before .before .before .before .before .before .before .before .before .before .before .before .before .before .before .before .before .before .before .before .before .args .last) + c .before .before .before .before .before .before .before .before .before .before .before .before .before .before .before .before .before .before .before .before .before .before .u32-at .result ≤ 2 ^ 64 - 1 = ltb-false (2 ^ 64 - 1) (nextOf (c .before .before .before .before .before .before .before .before .before .before .before .before .before .before .before .before .before .before .before .before .before .before .before .before .before .before .before .args .first) (c .before .before .before .before .before .before .before .before .before .before .before .before .before .before .before .before .before .before .before .before .before .before .before .before .before .before .before .args .last) + c .before .before .before .before .before .before .before .before .before .before .before .before .before .before .before .before .before .before .before .before .before .before .u32-at .result) (sym (c .before .before .before .before .before .before .before .before .before .before .before .before .before .before .before .before .before .before .before .before .ids-over .ensures) ∙ c .before .before .before .before .before .before .before .before .before .before .before .before .before .before .before .before .before .before .before .if2 .left) in
-    let e : c .before .before .before .before .before .before .before .before .before .before .before .before .before .before .before .before .before .bodies-end .result + 64 + c .before .before .before .before .before .before .before .before .before .before .before .before .before .before .before .round-up2 .result ≡ newEnd (opened (take (c .before .before .before .before .before .before .before .before .before .before .before .before .before .before .before .before .before .before .before .before .before .before .before .before .before .before .before .args .start) (c .before .before .before .before .before .before .before .before .before .before .before .before .before .before .before .before .before .before .before .before .before .before .before .before .before .before .before .args .buf .now))) (bodiesOf (c .before .before .before .before .before .before .before .before .before .before .before .before .before .before .before .before .before .before .before .before .before .before .before .before .before .before .before .args .batch .now)) = end-number (opened (take (c .before .before .before .before .before .before .before .before .before .before .before .before .before .before .before .before .before .before .before .before .before .before .before .before .before .before .before .args .start) (c .before .before .before .before .before .before .before .before .before .before .before .before .before .before .before .before .before .before .before .before .before .before .before .before .before .before .before .args .buf .now))) (bodiesOf (c .before .before .before .before .before .before .before .before .before .before .before .before .before .before .before .before .before .before .before .before .before .before .before .before .before .before .before .args .batch .now)) (c .before .before .before .before .before .before .before .before .before .before .before .before .before .before .before .before .before .before .before .before .before .before .before .before .before .before .before .args .start) (c .before .before .before .before .before .before .before .before .before .before .before .before .before .before .before .before .before .before .before .before .before .before .before .before .before .before .before .args .kept) (c .before .before .before .before .before .before .before .before .before .before .before .before .before .before .before .before .before .before .before .before .before .before .u32-at .result) (nextOf (c .before .before .before .before .before .before .before .before .before .before .before .before .before .before .before .before .before .before .before .before .before .before .before .before .before .before .before .args .first) (c .before .before .before .before .before .before .before .before .before .before .before .before .before .before .before .before .before .before .before .before .before .before .before .before .before .before .before .args .last)) (c .before .before .before .before .before .before .before .before .before .before .before .before .before .before .before .before .before .before .before .before .before .before .before .before .before .before .before .pre .1 .start-is) (c .before .before .before .before .before .before .before .before .before .before .before .before .before .before .before .before .before .before .before .before .before .before .before .before .before .before .before .pre .1 .count-is) (bodies-count (c .before .before .before .before .before .before .before .before .before .before .before .before .before .before .before .before .before .before .before .before .before .before .before .before .before .before .before .args .batch .now) ∙ sym (count-is (c .before .before .before .before .before .before .before .before .before .before .before .before .before .before .before .before .before .before .before .before .before .before .before .before .before .before .before .args .batch .now) (c .before .before .before .before .before .before .before .before .before .before .before .before .before .before .before .before .before .before .before .before .before .before .u32-at .result) (c .before .before .before .before .before .before .before .before .before .before .before .before .before .before .before .before .before .before .before .before .before .before .u32-at .ensures))) (c .before .before .before .before .before .before .before .before .before .before .before .before .before .before .before .before .before .before .before .before .before .before .before .before .before .before .before .pre .1 .next-is) _ _ _ (c .before .before .before .before .before .before .before .before .before .before .before .before .before .before .before .before .before .bodies-end .ensures) (c .before .before .before .before .before .before .before .before .before .before .before .before .before .before .before .before .round-up .ensures) (c .before .before .before .before .before .before .before .before .before .before .before .before .before .before .before .round-up2 .ensures) in
-    late-done _ _ _ _ _ (omega (arith, cn)) ov (omega (arith, e)) (omega (arith, e)) _ _ _ _ e (ap (λ (n : ℕ). n + c .before .before .before .before .before .before .before .before .before .before .before .before .before .before .before .before .before .before .before .before .before .before .u32-at .result) (c .before .before .before .before .before .before .before .before .before .before .before .before .before .before .before .before .before .before .next-id .ensures) ∙ i) cn
-    (written-all (c .before .before .before .before .before .before .before .before .before .before .before .before .before .before .before .before .before .before .before .before .before .before .before .before .before .before .before .args .buf .now) (c .before .before .before .before .before .before .before .before .before .before .before .before .before .before .before .before .before .before .before .before .before .before .before .before .before .before .before .args .offsets .now) (c .before .before .before .before .before .before .before .before .before .before .before .before .before .before .before .before .before .before .before .before .before .before .before .before .before .before .before .args .batch .now) (c .before .before .before .before .before .before .before .before .before .before .before .before .before .before .before .before .before .before .before .before .before .before .before .before .before .before .before .args .start) (c .before .before .before .before .before .before .before .before .before .before .before .before .before .before .before .before .before .before .before .before .before .before .before .before .before .before .before .args .kept) (c .before .before .before .before .before .before .before .before .before .before .before .before .before .before .before .before .before .before .before .before .before .before .before .before .before .before .before .args .first) (c .before .before .before .before .before .before .before .before .before .before .before .before .before .before .before .before .before .before .before .before .before .before .before .before .before .before .before .args .last) (c .before .before .before .before .before .before .before .before .before .before .before .before .before .before .before .before .before .before .before .before .before .before .before .before .before .before .before .pre .1) (c .before .before .before .before .before .before .before .before .before .before .before .before .before .before .before .before .before .before .before .before .before .before .before .before .before .before .before .pre .0 .0) (c .before .before .before .before .before .before .before .before .before .before .before .before .before .before .before .before .before .before .before .before .before .before .before .before .before .before .before .args .timestamp) (c .before .before .before .before .before .before .before .before .before .before .before .before .before .before .before .before .before .before .before .before .before .before .before .before .before .before .before .fits .timestamp .fits) (c .before .before .before .before .before .before .before .before .before .before .before .before .before .before .before .before .before .before .next-id .result) (c .before .before .before .before .before .before .before .before .before .before .before .before .before .before .before .before .before .before .before .before .before .before .u32-at .result) (c .before .before .before .before .before .before .before .before .before .before .before .before .before .before .before .before .before .before .next-id .ensures) m-is (omega (arith, c .before .before .before .before .before .before .before .before .before .before .before .before .before .before .before .before .before .before .next-id .ensures, fit)) (c .before .before .before .before .before .before .before .before .before .before .before .before .before .before .before .before .before .bodies-end .result) (c .before .before .before .before .before .before .before .before .before .before .before .before .before .before .before .before .before .bodies-end .ensures) (omega arith) (omega arith) (omega (arith, c .before .before .before .before .before .before .before .before .before .before .before .before .before .before .before .before .before .before .before .before .before .before .before .before .before .before .before .pre .0 .1 .0)) (c .before .before .before .before .before .before .before .before .before .before .put-bodies .last .0) (c .before .before .before .before .before .before .before .before .before .before .put-bodies .last .1 .1 .1 .1 .1 .0) (c .before .before .before .before .before .before .before .before .before .before .put-bodies .ensures .0) (c .before .before .before .before .before .before .before .before .before .before .put-bodies .ensures .1) _ _ _ refl (λ k. omega (arith, c .before .before .before .before .before .before .before .before .slice-known3 .given k)) (c .before .before .put-manifest .ensures))
+    let sk3 = c .before .before .before .before .before .before .before .before in
+    let p = sk3 .before .before in
+    let s = s (v p) in
+    let e = end-new (r p) in
+    late-done _ _ _ _ _ (omega (arith, few p, count-new (v p))) (id-enough (n p .before)) (omega (arith, e)) (omega (arith, e)) _ _ _ _ e
+    (ap (λ (k : ℕ). k + m (v p)) (n p .next-id .ensures) ∙ id-new (v p)) (count-new (v p))
+    (written-all (s .args .buf .now) (s .args .offsets .now) (s .args .batch .now) (s .args .start) (s .args .kept) (s .args .first) (s .args .last)
+    (s .pre .1) (s .pre .0 .0) (s .args .timestamp) (s .fits .timestamp .fits) (n p .next-id .result) (m (v p)) (n p .next-id .ensures)
+    (count-is (s .args .batch .now) (m (v p)) (v p .u32-at .ensures)) (ids-fit p) (b p .bodies-end .result) (b p .bodies-end .ensures)
+    (omega arith) (omega arith) (omega (arith, few p, s .pre .0 .1 .0))
+    (p .put-bodies .last .0) (p .put-bodies .last .1 .1 .1 .1 .1 .0) (p .put-bodies .ensures .0) (p .put-bodies .ensures .1)
+    _ _ _ refl (λ k. omega (arith, sk3 .slice-known3 .given k)) (c .before .before .put-manifest .ensures))
 
 pub finish-spec : {M : Type 1} → statement M
 finish-spec =
     tie.close
     (tie.spec
-    u32-at-requires
-    cast-m
-    add-count
-    returns
-    ids-over-requires
-    returns-2
-    next-id-requires
-    bodies-end-requires
-    add-end
-    mul-round-up
-    add-round-up
-    round-up-requires
-    add-round-up-2
-    round-up-requires-2
-    add-end-2
-    returns-3
-    returns-4
-    add-id
-    put-bodies-requires
-    slice-reshare-prefix-put-manifest
-    slice-aggregate-put-manifest
-    slice-aggregate-put-manifest-2
-    put-manifest-requires
-    same-length
-    same-length-2
-    returns-5)
+    u32-at-requires (λ c. search needs) add-count returns ids-over-requires returns-2 next-id-requires
+    bodies-end-requires add-end mul-round-up add-round-up round-up-requires add-round-up-2 round-up-requires-2
+    add-end-2 returns-3 returns-4 add-id put-bodies-requires (λ c. search needs) slice-aggregate-put-manifest
+    slice-aggregate-put-manifest-2 put-manifest-requires (λ c. search needs) (λ c. search needs) returns-5)

@@ -21,35 +21,11 @@ returns c = batch-short _ (omega arith)
 returns-2 : tie.Need-returns-2 Inv-loop μ-loop
 returns-2 c = batch-long _ (omega arith)
 
-u32-at-requires : tie.Need-u32-at-requires Inv-loop μ-loop
-u32-at-requires c κs = search needs
-
-cast-bodies : tie.Need-cast-bodies Inv-loop μ-loop
-cast-bodies c = search needs
-
 returns-3 : tie.Need-returns-3 Inv-loop μ-loop
 returns-3 c = batch-many _ _ (c .before .u32-at .ensures) (omega arith)
 
-sub-is-zero : tie.Need-sub-is-zero Inv-loop μ-loop
-sub-is-zero c = search needs
-
-part-is-zero-start : tie.Need-part-is-zero-start Inv-loop μ-loop
-part-is-zero-start c = search needs
-
-part-is-zero-end : tie.Need-part-is-zero-end Inv-loop μ-loop
-part-is-zero-end c = search needs
-
-is-zero-requires : tie.Need-is-zero-requires Inv-loop μ-loop
-is-zero-requires c κs = search needs
-
 returns-4 : tie.Need-returns-4 Inv-loop μ-loop
 returns-4 c = batch-zeros _ (sym (c .before .is-zero .ensures) ∙ not-true _ (c .if4 .taken))
-
-mul-at : tie.Need-mul-at Inv-loop μ-loop
-mul-at c = search needs
-
-add-at : tie.Need-add-at Inv-loop μ-loop
-add-at c = search needs
 
 returns-5 : tie.Need-returns-5 Inv-loop μ-loop
 returns-5 c = batch-room _ _ (c .before .before .before .before .before .u32-at .ensures) (omega arith)
@@ -57,93 +33,42 @@ returns-5 c = batch-room _ _ (c .before .before .before .before .before .u32-at 
 loop-holds : tie.Need-loop-holds Inv-loop μ-loop
 loop-holds c = lines-first _ _
 
-mul-line : tie.Need-mul-line Inv-loop μ-loop
-mul-line c = search needs
-
-add-line : tie.Need-add-line Inv-loop μ-loop
-add-line c = search needs
-
-add-end : tie.Need-add-end Inv-loop μ-loop
-add-end c = search needs
-
-sub-line-held : tie.Need-sub-line-held Inv-loop μ-loop
-sub-line-held c = search needs
-
-part-line-held-start : tie.Need-part-line-held-start Inv-loop μ-loop
-part-line-held-start c = search needs
-
-part-line-held-end : tie.Need-part-line-held-end Inv-loop μ-loop
-part-line-held-end c = search needs
-
-line-held-requires : tie.Need-line-held-requires Inv-loop μ-loop
-line-held-requires c κs = search needs
-
 returns-6 : tie.Need-returns-6 Inv-loop μ-loop
 returns-6 c =
-    let whole = batch-lines (c .before .before .before .before .before .before .before .before .before .before .before .before .before .before .args .batch .now) (c .before .before .before .before .before .before .before .before .before .before .u32-at .result) (c .before .before .before .before .before .before .before .before .before .before .u32-at .ensures) (omega arith) (omega arith) (omega arith) (sym (c .before .before .before .before .before .before .before .is-zero .ensures) ∙ not-false _ (c .before .before .before .before .before .before .if4 .left)) (omega arith) in
-    lines-stop _ _ _ _ (c .before .before .before .before .loop .inv) (omega arith) (sym (c .before .line-held .ensures) ∙ not-true _ (c .if6 .taken)) ∙ whole
-
-add-u32-at : tie.Need-add-u32-at Inv-loop μ-loop
-add-u32-at c = search needs
-
-u32-at-requires-2 : tie.Need-u32-at-requires-2 Inv-loop μ-loop
-u32-at-requires-2 c κs = search needs
-
-cast-at : tie.Need-cast-at Inv-loop μ-loop
-cast-at c = search needs
+    let l = c .before .before .before .before in
+    let e4 = l .before .before in
+    let ua = e4 .before .before .before .before in
+    let whole = batch-lines (ua .before .before .before .before .args .batch .now) (ua .u32-at .result)
+    (ua .u32-at .ensures) (omega arith) (omega arith) (omega arith) (sym (e4 .before .is-zero .ensures)
+    ∙ not-false _ (e4 .if4 .left)) (omega arith) in
+    lines-stop _ _ _ _ (l .loop .inv) (omega arith) (sym (c .before .line-held .ensures) ∙ not-true _ (c .if6 .taken)) ∙ whole
 
 add-at-2 : tie.Need-add-at-2 Inv-loop μ-loop
 add-at-2 c =
     let small = c .before .before .before .before .before .loop .inv .small in
     omega arith
 
-add-i : tie.Need-add-i Inv-loop μ-loop
-add-i c = search needs
-
-loop-less : tie.Need-loop-less Inv-loop μ-loop
-loop-less c = search needs
-
 loop-again : tie.Need-loop-again Inv-loop μ-loop
-loop-again c = lines-next _ _ _ _ (c .before .before .before .before .before .loop .inv) (omega arith) _ (c .u32-at2 .ensures) (omega arith) (sym (c .before .before .line-held .ensures) ∙ not-false _ (c .before .if6 .left))
+loop-again c = lines-next _ _ _ _ (c .before .before .before .before .before .loop .inv) (omega arith) _
+    (c .u32-at2 .ensures) (omega arith) (sym (c .before .before .line-held .ensures)
+    ∙ not-false _ (c .before .if6 .left))
 
 returns-7 : tie.Need-returns-7 Inv-loop μ-loop
 returns-7 c =
-    let whole = batch-lines (c .before .before .before .before .before .before .before .before .before .before .before .args .batch .now) (c .before .before .before .before .before .before .before .u32-at .result) (c .before .before .before .before .before .before .before .u32-at .ensures) (omega arith) (omega arith) (omega arith) (sym (c .before .before .before .before .is-zero .ensures) ∙ not-false _ (c .before .before .before .if4 .left)) (omega arith) in
+    let e4 = c .before .before .before in
+    let ua = e4 .before .before .before .before in
+    let whole = batch-lines (ua .before .before .before .before .args .batch .now) (ua .u32-at .result)
+    (ua .u32-at .ensures) (omega arith) (omega arith) (omega arith) (sym (e4 .before .is-zero .ensures)
+    ∙ not-false _ (e4 .if4 .left)) (omega arith) in
     lines-last _ _ _ _ (c .before .loop .inv) (omega arith) ∙ whole
 
 pub check-spec : {M : Type 1} → statement M
 check-spec =
     tie.close
     (tie.spec
-    Inv-loop
-    μ-loop
-    returns
-    returns-2
-    u32-at-requires
-    cast-bodies
-    returns-3
-    sub-is-zero
-    part-is-zero-start
-    part-is-zero-end
-    is-zero-requires
-    returns-4
-    mul-at
-    add-at
-    returns-5
-    loop-holds
-    mul-line
-    add-line
-    add-end
-    sub-line-held
-    part-line-held-start
-    part-line-held-end
-    line-held-requires
-    returns-6
-    add-u32-at
-    u32-at-requires-2
-    cast-at
-    add-at-2
-    add-i
-    loop-less
-    loop-again
-    returns-7)
+    Inv-loop μ-loop returns returns-2 (λ c κs. search needs) (λ c. search needs) returns-3 (λ c. search needs)
+    (λ c. search needs) (λ c. search needs) (λ c κs. search needs) returns-4 (λ c. search needs)
+    (λ c. search needs) returns-5 loop-holds (λ c. search needs) (λ c. search needs) (λ c. search needs)
+    (λ c. search needs) (λ c. search needs) (λ c. search needs) (λ c κs. search needs) returns-6
+    (λ c. search needs) (λ c κs. search needs) (λ c. search needs) add-at-2 (λ c. search needs)
+    (λ c. search needs) loop-again returns-7)

@@ -13,68 +13,62 @@ use borrow.Author.Needs.{needs}
 use Rattle.append.proofs.new_manifest.put_manifest.Statement.{statement}
 use Rattle.append.proofs.new_manifest.put_manifest.Tie as tie
 
-slice-aggregate-put-payload : tie.Need-slice-aggregate-put-payload
-slice-aggregate-put-payload c = search needs
-
-slice-reshare-prefix-put-payload : tie.Need-slice-reshare-prefix-put-payload
-slice-reshare-prefix-put-payload c = search needs
-
 slice-aggregate-put-payload-2 : tie.Need-slice-aggregate-put-payload-2
-slice-aggregate-put-payload-2 c = sym (length-take-le (c .before .before .before .before .before .args .at) (c .before .before .before .before .before .args .buf .now) (omega (arith, c .before .before .before .before .before .pre .1 .0 .0)))
+slice-aggregate-put-payload-2 c =
+    let s = c .before .before .before .before .before in
+    sym (length-take-le (s .args .at) (s .args .buf .now) (omega (arith, s .pre .1 .0 .0)))
 
 put-payload-requires : tie.Need-put-payload-requires
 put-payload-requires c κs =
-    let m = payload-most (length (c .before .before .before .before .before .args .offsets .now)) (c .before .before .before .before .before .pre .0 .0) in
-    ((omega (arith, m), c .before .before .before .before .before .pre .0 .1), (c .before .before .before .before .before .pre .1 .1, omega (arith, c .before .before .before .before .before .pre .1 .0 .1, m)))
-
-sub-put-segment : tie.Need-sub-put-segment
-sub-put-segment c = search needs
-
-part-put-segment-start : tie.Need-part-put-segment-start
-part-put-segment-start c = search needs
-
-part-put-segment-end : tie.Need-part-put-segment-end
-part-put-segment-end c = search needs
+    let s = c .before .before .before .before .before in
+    let m = payload-most (length (s .args .offsets .now)) (s .pre .0 .0) in
+    ((omega (arith, m), s .pre .0 .1), (s .pre .1 .1, omega (arith, s .pre .1 .0 .1, m)))
 
 array-share-prefix-payload : tie.Need-array-share-prefix-payload
-array-share-prefix-payload c = omega (arith, payload-most (length (c .before .before .before .before .before .before .before .before .args .offsets .now)) (c .before .before .before .before .before .before .before .before .pre .0 .0), c .before .before .put-payload .ensures .0)
+array-share-prefix-payload c =
+    let s = c .before .before .before .before .before .before .before .before in
+    omega (arith, payload-most (length (s .args .offsets .now)) (s .pre .0 .0), c .before .before .put-payload .ensures .0)
 
 slice-aggregate-put-segment : tie.Need-slice-aggregate-put-segment
 slice-aggregate-put-segment c =
-    let lp = length-payloadAt (take (c .before .before .before .before .before .before .before .before .before .args .at) (c .before .before .before .before .before .before .before .before .before .args .buf .now)) (c .before .before .before .before .before .before .before .before .before .args .offsets .now) (c .before .before .before .before .before .before .before .before .before .args .states .now) (c .before .before .before .before .before .before .before .before .before .args .at) (c .before .before .before .before .before .before .before .before .before .args .id) (c .before .before .before .before .before .before .before .before .before .pre .1 .1) in
-    let f = payload-front (c .before .before .before .put-payload .last .0) _ _ (c .before .before .before .put-payload .result) (c .before .before .before .put-payload .ensures .1) (lp ∙ sym (c .before .before .before .put-payload .ensures .0)) in
-    c .before .before .before .put-payload .ensures .0 ∙ sym lp ∙ sym (ap length f)
+    let pp = c .before .before .before in
+    let s = pp .before .before .before .before .before .before in
+    let lp = length-payloadAt (take (s .args .at) (s .args .buf .now)) (s .args .offsets .now)
+    (s .args .states .now) (s .args .at) (s .args .id) (s .pre .1 .1) in
+    let f = payload-front (pp .put-payload .last .0) _ _ (pp .put-payload .result) (pp .put-payload .ensures .1)
+    (lp ∙ sym (pp .put-payload .ensures .0)) in
+    pp .put-payload .ensures .0 ∙ sym lp ∙ sym (ap length f)
 
 put-segment-requires : tie.Need-put-segment-requires
 put-segment-requires c κs =
-    let lp = length-payloadAt (take (c .before .before .before .before .before .before .before .before .before .args .at) (c .before .before .before .before .before .before .before .before .before .args .buf .now)) (c .before .before .before .before .before .before .before .before .before .args .offsets .now) (c .before .before .before .before .before .before .before .before .before .args .states .now) (c .before .before .before .before .before .before .before .before .before .args .at) (c .before .before .before .before .before .before .before .before .before .args .id) (c .before .before .before .before .before .before .before .before .before .pre .1 .1) in
-    let f = payload-front (c .before .before .before .put-payload .last .0) _ _ (c .before .before .before .put-payload .result) (c .before .before .before .put-payload .ensures .1) (lp ∙ sym (c .before .before .before .put-payload .ensures .0)) in
-    let r : round64 (length (take (c .before .before .before .put-payload .result) (c .before .before .before .put-payload .last .0))) ≡ round64 (payloadLength (length (c .before .before .before .before .before .before .before .before .before .args .offsets .now))) = ap round64 (ap length f ∙ lp) in
-    omega (arith, r, c .before .before .before .before .before .before .before .before .before .pre .1 .0 .0, length-take (length (c .before .before .before .before .before .before .before .before .before .args .buf .now) - c .before .before .before .before .before .before .before .before .before .args .at) (drop (c .before .before .before .before .before .before .before .before .before .args .at) (c .before .before .before .before .before .before .before .before .before .args .buf .now)), length-drop (c .before .before .before .before .before .before .before .before .before .args .at) (c .before .before .before .before .before .before .before .before .before .args .buf .now))
-
-same-length : tie.Need-same-length
-same-length c = search needs
+    let pp = c .before .before .before in
+    let s = pp .before .before .before .before .before .before in
+    let at = s .args .at in
+    let buf = s .args .buf .now in
+    let lp = length-payloadAt (take at buf) (s .args .offsets .now) (s .args .states .now) at (s .args .id) (s .pre .1 .1) in
+    let f = payload-front (pp .put-payload .last .0) _ _ (pp .put-payload .result) (pp .put-payload .ensures .1)
+    (lp ∙ sym (pp .put-payload .ensures .0)) in
+    let r : round64 (length (take (pp .put-payload .result) (pp .put-payload .last .0))) ≡ round64
+    (payloadLength (length (s .args .offsets .now))) = ap round64 (ap length f ∙ lp) in
+    omega (arith, r, s .pre .1 .0 .0, length-take (length buf - at) (drop at buf), length-drop at buf)
 
 returns : tie.Need-returns
 returns c =
-    let lp = length-payloadAt (take (c .before .before .before .before .before .before .before .before .before .before .before .before .args .at) (c .before .before .before .before .before .before .before .before .before .before .before .before .args .buf .now)) (c .before .before .before .before .before .before .before .before .before .before .before .before .args .offsets .now) (c .before .before .before .before .before .before .before .before .before .before .before .before .args .states .now) (c .before .before .before .before .before .before .before .before .before .before .before .before .args .at) (c .before .before .before .before .before .before .before .before .before .before .before .before .args .id) (c .before .before .before .before .before .before .before .before .before .before .before .before .pre .1 .1) in
-    let f = payload-front (c .before .before .before .before .before .before .put-payload .last .0) _ _ (c .before .before .before .before .before .before .put-payload .result) (c .before .before .before .before .before .before .put-payload .ensures .1) (lp ∙ sym (c .before .before .before .before .before .before .put-payload .ensures .0)) in
-    let r : round64 (length (payloadAt (take (c .before .before .before .before .before .before .before .before .before .before .before .before .args .at) (c .before .before .before .before .before .before .before .before .before .before .before .before .args .buf .now)) (c .before .before .before .before .before .before .before .before .before .before .before .before .args .offsets .now) (c .before .before .before .before .before .before .before .before .before .before .before .before .args .states .now) (c .before .before .before .before .before .before .before .before .before .before .before .before .args .at) (c .before .before .before .before .before .before .before .before .before .before .before .before .args .id))) ≡ round64 (payloadLength (length (c .before .before .before .before .before .before .before .before .before .before .before .before .args .offsets .now))) = ap round64 lp in
-    manifest-laid _ _ _ _ _ _ _ _ _ f (c .before .before .put-segment .ensures .1) (omega (arith, r, c .before .before .before .before .before .before .before .before .before .before .before .before .pre .1 .0 .0))
+    let pp = c .before .before .before .before .before .before in
+    let s = pp .before .before .before .before .before .before in
+    let at = s .args .at in
+    let offsets = s .args .offsets .now in
+    let lp = length-payloadAt (take at (s .args .buf .now)) offsets (s .args .states .now) at (s .args .id) (s .pre .1 .1) in
+    let f = payload-front (pp .put-payload .last .0) _ _ (pp .put-payload .result) (pp .put-payload .ensures .1)
+    (lp ∙ sym (pp .put-payload .ensures .0)) in
+    let r : round64 (length (payloadAt (take at (s .args .buf .now)) offsets (s .args .states .now) at
+    (s .args .id))) ≡ round64 (payloadLength (length offsets)) = ap round64 lp in
+    manifest-laid _ _ _ _ _ _ _ _ _ f (c .before .before .put-segment .ensures .1) (omega (arith, r, s .pre .1 .0 .0))
 
 pub put-manifest-spec : {M : Type 1} → statement M
 put-manifest-spec =
     tie.close
     (tie.spec
-    slice-aggregate-put-payload
-    slice-reshare-prefix-put-payload
-    slice-aggregate-put-payload-2
-    put-payload-requires
-    sub-put-segment
-    part-put-segment-start
-    part-put-segment-end
-    array-share-prefix-payload
-    slice-aggregate-put-segment
-    put-segment-requires
-    same-length
-    returns)
+    (λ c. search needs) (λ c. search needs) slice-aggregate-put-payload-2 put-payload-requires
+    (λ c. search needs) (λ c. search needs) (λ c. search needs) array-share-prefix-payload
+    slice-aggregate-put-segment put-segment-requires (λ c. search needs) returns)

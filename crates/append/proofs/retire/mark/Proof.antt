@@ -21,68 +21,71 @@ abbrev μ-loop : tie.MeasureT-loop
 loop-holds : tie.Need-loop-holds Inv-loop μ-loop
 loop-holds c = mark-first _ _ _ _ (c .before .before .before .before .pre .0 .1)
 
-mul-index-of : tie.Need-mul-index-of Inv-loop μ-loop
-mul-index-of c = search needs
-
-shared-slice-read-index-of : tie.Need-shared-slice-read-index-of Inv-loop μ-loop
-shared-slice-read-index-of c = search needs
-
-index-of-requires : tie.Need-index-of-requires Inv-loop μ-loop
-index-of-requires c κs = search needs
-
-enum-told : tie.Need-enum-told Inv-loop μ-loop
-enum-told c = search needs
-
 same-length : tie.Need-same-length Inv-loop μ-loop
 same-length c = c .before .before .before .before .before .loop .inv .long
 
 returns : tie.Need-returns Inv-loop μ-loop
-returns c = (mark-nowhere _ _ _ _ _ _ (c .before .before .before .before .before .loop .inv) (omega arith) (rw take-length at (was-nowhere _ (sym (c .before .before .index-of .ensures) ∙ c .enum-told .given .1))), λ q. absurd (false≢true q))
-
-enum-known-place : tie.Need-enum-known-place Inv-loop μ-loop
-enum-known-place c = search needs
+returns c = (
+  mark-nowhere _ _ _ _ _ _ (c .before .before .before .before .before .loop .inv) (omega arith)
+      (rw take-length at (was-nowhere _ (sym (c .before .before .index-of .ensures) ∙ c .enum-told .given .1))),
+  λ q.
+      absurd (false≢true q),
+)
 
 shared-slice-read-if1 : tie.Need-shared-slice-read-if1 Inv-loop μ-loop
 shared-slice-read-if1 c =
-    let e = rw take-length at (was-place _ _ (sym (c .before .before .before .before .index-of .ensures) ∙ c .before .before .place .given .1)) in
-    omega (arith, index-within _ _ _ e, c .before .before .before .before .before .before .before .before .before .before .before .before .pre .0, c .before .before .before .before .before .before .before .loop .inv .long)
+    let io = c .before .before .before .before in
+    let l = io .before .before .before in
+    let e = rw take-length at (was-place _ _ (sym (io .index-of .ensures) ∙ c .before .before .place .given .1)) in
+    omega (arith, index-within _ _ _ e, l .before .before .before .before .before .pre .0, l .loop .inv .long)
 
 same-length-2 : tie.Need-same-length-2 Inv-loop μ-loop
 same-length-2 c = c .before .before .before .before .before .before .before .before .loop .inv .long
 
 returns-2 : tie.Need-returns-2 Inv-loop μ-loop
 returns-2 c =
-    let e = rw take-length at (was-place _ _ (sym (c .before .before .before .before .before .index-of .ensures) ∙ c .before .before .before .place .given .1)) in
-    (mark-manifest _ _ _ _ _ _ (c .before .before .before .before .before .before .before .before .loop .inv) (omega arith) (c .before .before .before .before .before .before .before .before .before .before .before .before .before .pre .1) _ e (c .if1 .taken), λ q. absurd (false≢true q))
+    let p = c .before .before .before in
+    let l = p .before .before .before .before .before in
+    let e = rw take-length at (was-place _ _ (sym (p .before .before .index-of .ensures) ∙ p .place .given .1)) in (
+      mark-manifest _ _ _ _ _ _ (l .loop .inv) (omega arith) (l .before .before .before .before .before .pre .1) _ e
+          (c .if1 .taken),
+      λ q. absurd (false≢true q),
+    )
 
 slice-read-if2 : tie.Need-slice-read-if2 Inv-loop μ-loop
 slice-read-if2 c =
-    let e = rw take-length at (was-place _ _ (sym (c .before .before .before .before .before .before .index-of .ensures) ∙ c .before .before .before .before .place .given .1)) in
-    omega (arith, index-within _ _ _ e, c .before .before .before .before .before .before .before .before .before .before .before .before .before .before .pre .0, c .before .before .before .before .before .before .before .before .before .loop .inv .long)
+    let p = c .before .before .before .before in
+    let l = p .before .before .before .before .before in
+    let e = rw take-length at (was-place _ _ (sym (p .before .before .index-of .ensures) ∙ p .place .given .1)) in
+    omega (arith, index-within _ _ _ e, l .before .before .before .before .before .pre .0, l .loop .inv .long)
 
 same-length-3 : tie.Need-same-length-3 Inv-loop μ-loop
 same-length-3 c = c .before .before .before .before .before .before .before .before .before .before .loop .inv .long
 
 returns-3 : tie.Need-returns-3 Inv-loop μ-loop
 returns-3 c =
-    let e = rw take-length at (was-place _ _ (sym (c .before .before .before .before .before .before .before .index-of .ensures) ∙ c .before .before .before .before .before .place .given .1)) in
-    (mark-retired _ _ _ _ _ _ (c .before .before .before .before .before .before .before .before .before .before .loop .inv) (omega arith) (c .before .before .before .before .before .before .before .before .before .before .before .before .before .before .before .pre .1) _ e (c .if2 .taken), λ q. absurd (false≢true q))
+    let p = c .before .before .before .before .before in
+    let l = p .before .before .before .before .before in
+    let e = rw take-length at (was-place _ _ (sym (p .before .before .index-of .ensures) ∙ p .place .given .1)) in (
+      mark-retired _ _ _ _ _ _ (l .loop .inv) (omega arith) (l .before .before .before .before .before .pre .1) _ e
+          (c .if2 .taken),
+      λ q. absurd (false≢true q),
+    )
 
 slice-write-states : tie.Need-slice-write-states Inv-loop μ-loop
 slice-write-states c =
-    let e = rw take-length at (was-place _ _ (sym (c .before .before .before .before .before .before .before .index-of .ensures) ∙ c .before .before .before .before .before .place .given .1)) in
-    omega (arith, index-within _ _ _ e, c .before .before .before .before .before .before .before .before .before .before .before .before .before .before .before .pre .0, c .before .before .before .before .before .before .before .before .before .before .loop .inv .long)
-
-add-j : tie.Need-add-j Inv-loop μ-loop
-add-j c = search needs
-
-loop-less : tie.Need-loop-less Inv-loop μ-loop
-loop-less c = search needs
+    let p = c .before .before .before .before .before in
+    let l = p .before .before .before .before .before in
+    let e = rw take-length at (was-place _ _ (sym (p .before .before .index-of .ensures) ∙ p .place .given .1)) in
+    omega (arith, index-within _ _ _ e, l .before .before .before .before .before .pre .0, l .loop .inv .long)
 
 loop-again : tie.Need-loop-again Inv-loop μ-loop
 loop-again c =
-    let e = rw take-length at (was-place _ _ (sym (c .before .before .before .before .before .before .before .index-of .ensures) ∙ c .before .before .before .before .before .place .given .1)) in
-    mark-next _ _ _ _ _ _ (c .before .before .before .before .before .before .before .before .before .before .loop .inv) (omega arith) (c .before .before .before .before .before .before .before .before .before .before .before .before .before .before .before .pre .1) _ e (c .before .before .if1 .left) (c .if2 .left)
+    let p = c .before .before .before .before .before in
+    let l = p .before .before .before .before .before in
+    let e = rw take-length at (was-place _ _ (sym (p .before .before .index-of .ensures) ∙ p .place .given .1)) in
+    mark-next _ _ _ _ _ _ (l .loop .inv) (omega arith) (l .before .before .before .before .before .pre .1) _ e
+    (c .before .before .if1 .left) (c .if2 .left)
 
 same-length-4 : tie.Need-same-length-4 Inv-loop μ-loop
 same-length-4 c = c .before .loop .inv .long
@@ -94,25 +97,7 @@ pub mark-spec : {M : Type 1} → statement M
 mark-spec =
     tie.close
     (tie.spec
-    Inv-loop
-    μ-loop
-    loop-holds
-    mul-index-of
-    shared-slice-read-index-of
-    index-of-requires
-    enum-told
-    same-length
-    returns
-    enum-known-place
-    shared-slice-read-if1
-    same-length-2
-    returns-2
-    slice-read-if2
-    same-length-3
-    returns-3
-    slice-write-states
-    add-j
-    loop-less
-    loop-again
-    same-length-4
-    returns-4)
+    Inv-loop μ-loop loop-holds (λ c. search needs) (λ c. search needs) (λ c κs. search needs)
+    (λ c. search needs) same-length returns (λ c. search needs) shared-slice-read-if1 same-length-2 returns-2
+    slice-read-if2 same-length-3 returns-3 slice-write-states (λ c. search needs) (λ c. search needs) loop-again
+    same-length-4 returns-4)

@@ -9,89 +9,69 @@ use Rattle.append.proofs.vectors.body_bad.Tie as tie
 
 mul-line : tie.Need-mul-line
 mul-line c =
-    let b = body-at (c .before .args .batch .now) (c .before .pre .0) (c .before .args .j) (c .before .pre .1) in
+    let s = c .before in
+    let b = body-at (s .args .batch .now) (s .pre .0) (s .args .j) (s .pre .1) in
     omega (arith, b .line-room)
 
 add-line : tie.Need-add-line
 add-line c =
-    let b = body-at (c .before .args .batch .now) (c .before .pre .0) (c .before .args .j) (c .before .pre .1) in
+    let s = c .before in
+    let b = body-at (s .args .batch .now) (s .pre .0) (s .args .j) (s .pre .1) in
     omega (arith, b .line-room)
 
 shared-slice-read-if1 : tie.Need-shared-slice-read-if1
 shared-slice-read-if1 c =
-    let b = body-at (c .before .before .args .batch .now) (c .before .before .pre .0) (c .before .before .args .j) (c .before .before .pre .1) in
+    let s = c .before .before in
+    let b = body-at (s .args .batch .now) (s .pre .0) (s .args .j) (s .pre .1) in
     omega (arith, b .line-room)
 
 returns : tie.Need-returns
 returns c =
-    let b = body-at (c .before .before .before .args .batch .now) (c .before .before .before .pre .0) (c .before .before .before .args .j) (c .before .before .before .pre .1) in
+    let s = c .before .before .before in
+    let b = body-at (s .args .batch .now) (s .pre .0) (s .args .j) (s .pre .1) in
     body-other _ _ b (c .if1 .taken)
 
 add-u32-at : tie.Need-add-u32-at
 add-u32-at c =
-    let b = body-at (c .before .before .before .args .batch .now) (c .before .before .before .pre .0) (c .before .before .before .args .j) (c .before .before .before .pre .1) in
+    let s = c .before .before .before in
+    let b = body-at (s .args .batch .now) (s .pre .0) (s .args .j) (s .pre .1) in
     omega (arith, b .line-room)
 
 u32-at-requires : tie.Need-u32-at-requires
 u32-at-requires c κs =
-    let b = body-at (c .before .before .before .args .batch .now) (c .before .before .before .pre .0) (c .before .before .before .args .j) (c .before .before .before .pre .1) in
+    let s = c .before .before .before in
+    let b = body-at (s .args .batch .now) (s .pre .0) (s .args .j) (s .pre .1) in
     omega (arith, b .line-room)
-
-cast-from : tie.Need-cast-from
-cast-from c = search needs
 
 add-u32-at-2 : tie.Need-add-u32-at-2
 add-u32-at-2 c =
-    let b = body-at (c .before .before .before .before .args .batch .now) (c .before .before .before .before .pre .0) (c .before .before .before .before .args .j) (c .before .before .before .before .pre .1) in
+    let s = c .before .before .before .before in
+    let b = body-at (s .args .batch .now) (s .pre .0) (s .args .j) (s .pre .1) in
     omega (arith, b .line-room)
 
 u32-at-requires-2 : tie.Need-u32-at-requires-2
 u32-at-requires-2 c κs =
-    let b = body-at (c .before .before .before .before .args .batch .now) (c .before .before .before .before .pre .0) (c .before .before .before .before .args .j) (c .before .before .before .before .pre .1) in
+    let s = c .before .before .before .before in
+    let b = body-at (s .args .batch .now) (s .pre .0) (s .args .j) (s .pre .1) in
     omega (arith, b .line-room)
-
-cast-end : tie.Need-cast-end
-cast-end c = search needs
-
-add-end : tie.Need-add-end
-add-end c = search needs
-
-sub-check : tie.Need-sub-check
-sub-check c = search needs
-
-part-check-start : tie.Need-part-check-start
-part-check-start c = search needs
 
 part-check-end : tie.Need-part-check-end
 part-check-end c =
-    let b = body-at (c .before .before .before .before .before .args .batch .now) (c .before .before .before .before .before .pre .0) (c .before .before .before .before .before .args .j) (c .before .before .before .before .before .pre .1) in
+    let s = c .before .before .before .before .before in
+    let b = body-at (s .args .batch .now) (s .pre .0) (s .args .j) (s .pre .1) in
     omega (arith, b .room, c .before .u32-at .ensures, c .u32-at2 .ensures)
-
-check-requires : tie.Need-check-requires
-check-requires c κs = search needs
 
 returns-2 : tie.Need-returns-2
 returns-2 c =
-    let b = body-at (c .before .before .before .before .before .before .before .args .batch .now) (c .before .before .before .before .before .before .before .pre .0) (c .before .before .before .before .before .before .before .args .j) (c .before .before .before .before .before .before .before .pre .1) in
-    body-checked _ _ b (c .before .before .before .before .if1 .left) _ _ _ (c .before .before .before .u32-at .ensures) (c .before .before .u32-at2 .ensures) (c .check .ensures)
+    let ua = c .before .before .before in
+    let s = ua .before .before .before .before in
+    let b = body-at (s .args .batch .now) (s .pre .0) (s .args .j) (s .pre .1) in
+    body-checked _ _ b (ua .before .if1 .left) _ _ _ (ua .u32-at .ensures) (c .before .before .u32-at2 .ensures) (c .check .ensures)
 
 pub body-bad-spec : {M : Type 1} → statement M
 body-bad-spec =
     tie.close
     (tie.spec
-    mul-line
-    add-line
-    shared-slice-read-if1
-    returns
-    add-u32-at
-    u32-at-requires
-    cast-from
-    add-u32-at-2
-    u32-at-requires-2
-    cast-end
-    add-end
-    sub-check
-    part-check-start
-    part-check-end
-    check-requires
-    returns-2)
+    mul-line add-line shared-slice-read-if1 returns add-u32-at u32-at-requires (λ c. search needs) add-u32-at-2
+    u32-at-requires-2 (λ c. search needs) (λ c. search needs) (λ c. search needs) (λ c. search needs)
+    part-check-end (λ c κs. search needs) returns-2)

@@ -21,53 +21,41 @@ u32-at-requires c κs =
     let b = held-bounds (c .before .args .batch .now) (c .before .pre) in
     omega (arith, b .1 .1)
 
-cast-count : tie.Need-cast-count Inv-loop μ-loop
-cast-count c = search needs
-
 loop-holds : tie.Need-loop-holds Inv-loop μ-loop
 loop-holds c = vectors-first _
 
 body-bad-requires : tie.Need-body-bad-requires Inv-loop μ-loop
 body-bad-requires c κs =
-    let n = count-is (c .before .before .before .before .args .batch .now) (c .before .before .u32-at .result) (c .before .before .u32-at .ensures) in
-    (c .before .before .before .before .pre, omega (arith, n))
+    let ua = c .before .before in
+    let n = count-is (ua .before .before .args .batch .now) (ua .u32-at .result) (ua .u32-at .ensures) in
+    (ua .before .before .pre, omega (arith, n))
 
 returns : tie.Need-returns Inv-loop μ-loop
 returns c =
-    let n = count-is (c .before .before .before .before .before .before .args .batch .now) (c .before .before .before .before .u32-at .result) (c .before .before .before .before .u32-at .ensures) in
-    let k = bodies-count (c .before .before .before .before .before .before .args .batch .now) in
-    vectors-stop _ _ (c .before .before .before .loop .inv) (omega arith) _ (c .before .body-bad .ensures) (c .if1 .taken)
-
-add-j : tie.Need-add-j Inv-loop μ-loop
-add-j c = search needs
-
-loop-less : tie.Need-loop-less Inv-loop μ-loop
-loop-less c = search needs
+    let l = c .before .before .before in
+    let s = l .before .before .before in
+    let n = count-is (s .args .batch .now) (l .before .u32-at .result) (l .before .u32-at .ensures) in
+    let k = bodies-count (s .args .batch .now) in
+    vectors-stop _ _ (l .loop .inv) (omega arith) _ (c .before .body-bad .ensures) (c .if1 .taken)
 
 loop-again : tie.Need-loop-again Inv-loop μ-loop
 loop-again c =
-    let n = count-is (c .before .before .before .before .before .before .args .batch .now) (c .before .before .before .before .u32-at .result) (c .before .before .before .before .u32-at .ensures) in
-    let k = bodies-count (c .before .before .before .before .before .before .args .batch .now) in
-    vectors-next _ _ (c .before .before .before .loop .inv) (omega arith) (sym (c .before .body-bad .ensures) ∙ c .if1 .left)
+    let l = c .before .before .before in
+    let s = l .before .before .before in
+    let n = count-is (s .args .batch .now) (l .before .u32-at .result) (l .before .u32-at .ensures) in
+    let k = bodies-count (s .args .batch .now) in
+    vectors-next _ _ (l .loop .inv) (omega arith) (sym (c .before .body-bad .ensures) ∙ c .if1 .left)
 
 returns-2 : tie.Need-returns-2 Inv-loop μ-loop
 returns-2 c =
-    let n = count-is (c .before .before .before .before .args .batch .now) (c .before .before .u32-at .result) (c .before .before .u32-at .ensures) in
-    let k = bodies-count (c .before .before .before .before .args .batch .now) in
+    let ua = c .before .before in
+    let n = count-is (ua .before .before .args .batch .now) (ua .u32-at .result) (ua .u32-at .ensures) in
+    let k = bodies-count (ua .before .before .args .batch .now) in
     vectors-last _ _ (c .before .loop .inv) (omega arith)
 
 pub vectors-bad-spec : {M : Type 1} → statement M
 vectors-bad-spec =
     tie.close
     (tie.spec
-    Inv-loop
-    μ-loop
-    u32-at-requires
-    cast-count
-    loop-holds
-    body-bad-requires
-    returns
-    add-j
-    loop-less
-    loop-again
-    returns-2)
+    Inv-loop μ-loop u32-at-requires (λ c. search needs) loop-holds body-bad-requires returns (λ c. search needs)
+    (λ c. search needs) loop-again returns-2)

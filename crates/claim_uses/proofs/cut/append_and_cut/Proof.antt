@@ -1,5 +1,7 @@
 -- `append_and_cut` meets its contract: the bounds by what an accepted append says of the new end, the vector by the claim.
 -- Assumes nothing.
+use Prim.Native.Nat.{_≤_}
+use lib.ListN.{length}
 use mathlib.Core.Path.{sym}
 use native.Mathlib.Omega.{arith}
 use lib.Seq.{length-take-le}
@@ -11,80 +13,91 @@ use Rattle.claim_uses.proofs.cut.append_and_cut.Tie as tie
 returns : tie.Need-returns
 returns c = says-short _ _ _ _ _ _ _ _ (omega (arith, c .if1 .taken))
 
-slice-reshare-prefix-start-of : tie.Need-slice-reshare-prefix-start-of
-slice-reshare-prefix-start-of c = search needs
-
 slice-aggregate-start-of : tie.Need-slice-aggregate-start-of
-slice-aggregate-start-of c = sym (length-take-le (c .before .before .before .before .before .before .args .n) (c .before .before .before .before .before .before .args .buf .now) (omega (arith, c .before .if1 .left)))
+slice-aggregate-start-of c =
+    let s = c .before .before .before .before .before .before in
+    sym (length-take-le (s .args .n) (s .args .buf .now) (omega (arith, c .before .if1 .left)))
 
-start-of-requires : tie.Need-start-of-requires
-start-of-requires c κs = search needs
+abbrev s : tie.Else1 → tie.Start
+s e = e .before .before .before .before .before
 
-append-requires : tie.Need-append-requires
-append-requires c κs = search needs
+-- Where the batch is accepted: the new end is at or behind the start, and within the buffer.
+module _ (a : tie.After-a2) where
+  abbrev app : tie.After-append
+  app = a .before .before .before .before
 
-enum-known-a : tie.Need-enum-known-a
-enum-known-a c = search needs
+  abbrev e1 : tie.Else1
+  e1 = app .before .before .before .before
 
-enum-known-a-2 : tie.Need-enum-known-a-2
-enum-known-a-2 c = search needs
+  ends : (app .before .before .start-of .result ≤ a .a2 .given .0 .0) × (a .a2 .given .0 .0 ≤ length (s e1 .args .buf .now))
+  ends =
+      let s = s e1 in
+      let w = app .before .before .start-of .ensures
+      (within (s .args .buf .now) (s .args .n) (s .args .batch .now) (s .args .ids .now) (s .args .timestamp) _ _ _
+      _ (omega (arith, e1 .if1 .left)) _ (a .a2 .given .1) (app .append .ensures)) in (
+        omega (
+          arith,
+          start-le (s .args .buf .now) (s .args .n) (s .args .batch .now) (s .args .ids .now)
+              (s .args .timestamp) _ _ _ _ (omega (arith, e1 .if1 .left)) _ (a .a2 .given .1) (app .append .ensures),
+          w,
+        ),
+        end-room (s .args .buf .now) (s .args .n) (s .args .batch .now) (s .args .ids .now) (s .args .timestamp) _ _
+            _ _ (omega (arith, e1 .if1 .left)) _ (a .a2 .given .1) (app .append .ensures),
+      )
 
 sub-if2 : tie.Need-sub-if2
-sub-if2 c = omega (arith, start-le (c .before .before .before .before .before .before .before .before .before .before .before .before .before .before .args .buf .now) (c .before .before .before .before .before .before .before .before .before .before .before .before .before .before .args .n) (c .before .before .before .before .before .before .before .before .before .before .before .before .before .before .args .batch .now) (c .before .before .before .before .before .before .before .before .before .before .before .before .before .before .args .ids .now) (c .before .before .before .before .before .before .before .before .before .before .before .before .before .before .args .timestamp) _ _ _ _ (omega (arith, c .before .before .before .before .before .before .before .before .before .if1 .left)) _ (c .before .a2 .given .1) (c .before .before .before .before .before .append .ensures), c .before .before .before .before .before .before .before .start-of .ensures (within (c .before .before .before .before .before .before .before .before .before .before .before .before .before .before .args .buf .now) (c .before .before .before .before .before .before .before .before .before .before .before .before .before .before .args .n) (c .before .before .before .before .before .before .before .before .before .before .before .before .before .before .args .batch .now) (c .before .before .before .before .before .before .before .before .before .before .before .before .before .before .args .ids .now) (c .before .before .before .before .before .before .before .before .before .before .before .before .before .before .args .timestamp) _ _ _ _ (omega (arith, c .before .before .before .before .before .before .before .before .before .if1 .left)) _ (c .before .a2 .given .1) (c .before .before .before .before .before .append .ensures)))
-
-same-length : tie.Need-same-length
-same-length c = search needs
+sub-if2 c = omega (arith, ends (c .before))
 
 returns-2 : tie.Need-returns-2
-returns-2 c = says-whole (c .before .before .before .before .before .before .before .before .before .before .before .before .before .before .before .args .buf .now) (c .before .before .before .before .before .before .before .before .before .before .before .before .before .before .before .args .n) (c .before .before .before .before .before .before .before .before .before .before .before .before .before .before .before .args .batch .now) (c .before .before .before .before .before .before .before .before .before .before .before .before .before .before .before .args .ids .now) (c .before .before .before .before .before .before .before .before .before .before .before .before .before .before .before .args .timestamp) _ _ _ _ (omega (arith, c .before .before .before .before .before .before .before .before .before .before .if1 .left)) _ (c .before .before .a2 .given .1) (c .before .before .before .before .before .before .append .ensures) _ _ _ _ (c .before .before .before .before .before .before .before .before .start-of .ensures) (c .if2 .taken)
+returns-2 c =
+    let a = c .before .before in
+    let ap = app a in
+    let e1 = e1 a in
+    let s = s e1 in
+    says-whole (s .args .buf .now) (s .args .n) (s .args .batch .now) (s .args .ids .now) (s .args .timestamp) _ _
+    _ _ (omega (arith, e1 .if1 .left)) _ (a .a2 .given .1) (ap .append .ensures) _ _ _ _
+    (ap .before .before .start-of .ensures) (c .if2 .taken)
 
 add-cut : tie.Need-add-cut
-add-cut c = omega (arith, start-le (c .before .before .before .before .before .before .before .before .before .before .before .before .before .before .before .args .buf .now) (c .before .before .before .before .before .before .before .before .before .before .before .before .before .before .before .args .n) (c .before .before .before .before .before .before .before .before .before .before .before .before .before .before .before .args .batch .now) (c .before .before .before .before .before .before .before .before .before .before .before .before .before .before .before .args .ids .now) (c .before .before .before .before .before .before .before .before .before .before .before .before .before .before .before .args .timestamp) _ _ _ _ (omega (arith, c .before .before .before .before .before .before .before .before .before .before .if1 .left)) _ (c .before .before .a2 .given .1) (c .before .before .before .before .before .before .append .ensures), c .before .before .before .before .before .before .before .before .start-of .ensures (within (c .before .before .before .before .before .before .before .before .before .before .before .before .before .before .before .args .buf .now) (c .before .before .before .before .before .before .before .before .before .before .before .before .before .before .before .args .n) (c .before .before .before .before .before .before .before .before .before .before .before .before .before .before .before .args .batch .now) (c .before .before .before .before .before .before .before .before .before .before .before .before .before .before .before .args .ids .now) (c .before .before .before .before .before .before .before .before .before .before .before .before .before .before .before .args .timestamp) _ _ _ _ (omega (arith, c .before .before .before .before .before .before .before .before .before .before .if1 .left)) _ (c .before .before .a2 .given .1) (c .before .before .before .before .before .before .append .ensures)), end-room (c .before .before .before .before .before .before .before .before .before .before .before .before .before .before .before .args .buf .now) (c .before .before .before .before .before .before .before .before .before .before .before .before .before .before .before .args .n) (c .before .before .before .before .before .before .before .before .before .before .before .before .before .before .before .args .batch .now) (c .before .before .before .before .before .before .before .before .before .before .before .before .before .before .before .args .ids .now) (c .before .before .before .before .before .before .before .before .before .before .before .before .before .before .before .args .timestamp) _ _ _ _ (omega (arith, c .before .before .before .before .before .before .before .before .before .before .if1 .left)) _ (c .before .before .a2 .given .1) (c .before .before .before .before .before .before .append .ensures), c .before .before .before .before .before .before .before .before .before .before .before .before .before .before .slice-known .given 0)
+add-cut c =
+    let a = c .before .before in
+    omega (arith, ends a, e1 a .before .before .before .before .slice-known .given 0)
 
 slice-reshare-prefix-vector : tie.Need-slice-reshare-prefix-vector
-slice-reshare-prefix-vector c = omega (arith, start-le (c .before .before .before .before .before .before .before .before .before .before .before .before .before .before .before .args .buf .now) (c .before .before .before .before .before .before .before .before .before .before .before .before .before .before .before .args .n) (c .before .before .before .before .before .before .before .before .before .before .before .before .before .before .before .args .batch .now) (c .before .before .before .before .before .before .before .before .before .before .before .before .before .before .before .args .ids .now) (c .before .before .before .before .before .before .before .before .before .before .before .before .before .before .before .args .timestamp) _ _ _ _ (omega (arith, c .before .before .before .before .before .before .before .before .before .before .if1 .left)) _ (c .before .before .a2 .given .1) (c .before .before .before .before .before .before .append .ensures), c .before .before .before .before .before .before .before .before .start-of .ensures (within (c .before .before .before .before .before .before .before .before .before .before .before .before .before .before .before .args .buf .now) (c .before .before .before .before .before .before .before .before .before .before .before .before .before .before .before .args .n) (c .before .before .before .before .before .before .before .before .before .before .before .before .before .before .before .args .batch .now) (c .before .before .before .before .before .before .before .before .before .before .before .before .before .before .before .args .ids .now) (c .before .before .before .before .before .before .before .before .before .before .before .before .before .before .before .args .timestamp) _ _ _ _ (omega (arith, c .before .before .before .before .before .before .before .before .before .before .if1 .left)) _ (c .before .before .a2 .given .1) (c .before .before .before .before .before .before .append .ensures)), end-room (c .before .before .before .before .before .before .before .before .before .before .before .before .before .before .before .args .buf .now) (c .before .before .before .before .before .before .before .before .before .before .before .before .before .before .before .args .n) (c .before .before .before .before .before .before .before .before .before .before .before .before .before .before .before .args .batch .now) (c .before .before .before .before .before .before .before .before .before .before .before .before .before .before .before .args .ids .now) (c .before .before .before .before .before .before .before .before .before .before .before .before .before .before .before .args .timestamp) _ _ _ _ (omega (arith, c .before .before .before .before .before .before .before .before .before .before .if1 .left)) _ (c .before .before .a2 .given .1) (c .before .before .before .before .before .before .append .ensures), c .before .before .before .before .before .before .append .kept)
+slice-reshare-prefix-vector c =
+    let a = c .before .before in
+    omega (arith, ends a, app a .append .kept)
 
 slice-aggregate-vector : tie.Need-slice-aggregate-vector
-slice-aggregate-vector c = sym (length-take-le _ _ (omega (arith, start-le (c .before .before .before .before .before .before .before .before .before .before .before .before .before .before .before .before .args .buf .now) (c .before .before .before .before .before .before .before .before .before .before .before .before .before .before .before .before .args .n) (c .before .before .before .before .before .before .before .before .before .before .before .before .before .before .before .before .args .batch .now) (c .before .before .before .before .before .before .before .before .before .before .before .before .before .before .before .before .args .ids .now) (c .before .before .before .before .before .before .before .before .before .before .before .before .before .before .before .before .args .timestamp) _ _ _ _ (omega (arith, c .before .before .before .before .before .before .before .before .before .before .before .if1 .left)) _ (c .before .before .before .a2 .given .1) (c .before .before .before .before .before .before .before .append .ensures), c .before .before .before .before .before .before .before .before .before .start-of .ensures (within (c .before .before .before .before .before .before .before .before .before .before .before .before .before .before .before .before .args .buf .now) (c .before .before .before .before .before .before .before .before .before .before .before .before .before .before .before .before .args .n) (c .before .before .before .before .before .before .before .before .before .before .before .before .before .before .before .before .args .batch .now) (c .before .before .before .before .before .before .before .before .before .before .before .before .before .before .before .before .args .ids .now) (c .before .before .before .before .before .before .before .before .before .before .before .before .before .before .before .before .args .timestamp) _ _ _ _ (omega (arith, c .before .before .before .before .before .before .before .before .before .before .before .if1 .left)) _ (c .before .before .before .a2 .given .1) (c .before .before .before .before .before .before .before .append .ensures)), end-room (c .before .before .before .before .before .before .before .before .before .before .before .before .before .before .before .before .args .buf .now) (c .before .before .before .before .before .before .before .before .before .before .before .before .before .before .before .before .args .n) (c .before .before .before .before .before .before .before .before .before .before .before .before .before .before .before .before .args .batch .now) (c .before .before .before .before .before .before .before .before .before .before .before .before .before .before .before .before .args .ids .now) (c .before .before .before .before .before .before .before .before .before .before .before .before .before .before .before .before .args .timestamp) _ _ _ _ (omega (arith, c .before .before .before .before .before .before .before .before .before .before .before .if1 .left)) _ (c .before .before .before .a2 .given .1) (c .before .before .before .before .before .before .before .append .ensures), c .before .before .before .before .before .before .before .append .kept)))
-
-vector-requires : tie.Need-vector-requires
-vector-requires c κs = search needs
-
-same-length-2 : tie.Need-same-length-2
-same-length-2 c = search needs
+slice-aggregate-vector c =
+    let a = c .before .before .before in
+    sym (length-take-le _ _ (omega (arith, ends a, app a .append .kept)))
 
 returns-3 : tie.Need-returns-3
-returns-3 c = says-refused _ _ _ _ (c .before .before .before .before .before .before .before .before .before .before .before .before .before .before .args .timestamp) _ _ _ _ _ _ (c .before .a .given .1) (c .before .before .before .before .before .append .ensures)
-
-same-length-3 : tie.Need-same-length-3
-same-length-3 c = search needs
-
-same-length-4 : tie.Need-same-length-4
-same-length-4 c = search needs
+returns-3 c =
+    let a = c .before .before .before .before .before in
+    says-refused _ _ _ _
+    (a .before .before .before .before .before .before .before .before .before .args .timestamp) _ _ _ _ _ _
+    (c .before .a .given .1) (a .append .ensures)
 
 returns-4 : tie.Need-returns-4
-returns-4 c = says-read (c .before .before .before .before .before .before .before .before .before .before .before .before .before .before .before .before .before .before .before .before .args .buf .now) (c .before .before .before .before .before .before .before .before .before .before .before .before .before .before .before .before .before .before .before .before .args .n) (c .before .before .before .before .before .before .before .before .before .before .before .before .before .before .before .before .before .before .before .before .args .batch .now) (c .before .before .before .before .before .before .before .before .before .before .before .before .before .before .before .before .before .before .before .before .args .ids .now) (c .before .before .before .before .before .before .before .before .before .before .before .before .before .before .before .before .before .before .before .before .args .timestamp) _ _ _ _ (omega (arith, c .before .before .before .before .before .before .before .before .before .before .before .before .before .before .before .if1 .left)) _ (c .before .before .before .before .before .before .before .a2 .given .1) (c .before .before .before .before .before .before .before .before .before .before .before .append .ensures) (omega (arith, c .before .before .before .before .before .before .before .before .before .before .before .before .before .before .before .before .before .before .before .slice-known .given 0)) _ _ (c .before .before .before .before .before .before .before .before .before .before .before .before .before .start-of .ensures) (omega (arith, c .before .before .before .before .before .if2 .left)) _ _ _ _ (c .before .before .vector .ensures .0) (c .before .before .vector .ensures .1)
+returns-4 c =
+    let e2 = c .before .before .before .before .before in
+    let a = e2 .before .before in
+    let ap = app a in
+    let e1 = e1 a in
+    let s = s e1 in
+    says-read (s .args .buf .now) (s .args .n) (s .args .batch .now) (s .args .ids .now) (s .args .timestamp) _ _ _
+    _ (omega (arith, e1 .if1 .left)) _ (a .a2 .given .1) (ap .append .ensures)
+    (omega (arith, e1 .before .before .before .before .slice-known .given 0)) _ _
+    (ap .before .before .start-of .ensures) (omega (arith, e2 .if2 .left)) _ _ _ _
+    (c .before .before .vector .ensures .0) (c .before .before .vector .ensures .1)
 
 pub append-and-cut-spec : {M : Type 1} → statement M
 append-and-cut-spec =
     tie.close
     (tie.spec
-    returns
-    slice-reshare-prefix-start-of
-    slice-aggregate-start-of
-    start-of-requires
-    append-requires
-    enum-known-a
-    enum-known-a-2
-    sub-if2
-    same-length
-    returns-2
-    add-cut
-    slice-reshare-prefix-vector
-    slice-aggregate-vector
-    vector-requires
-    same-length-2
-    returns-3
-    same-length-3
-    same-length-4
-    returns-4)
+    returns (λ c. search needs) slice-aggregate-start-of (λ c κs. search needs) (λ c κs. search needs)
+    (λ c. search needs) (λ c. search needs) sub-if2 (λ c. search needs) returns-2 add-cut
+    slice-reshare-prefix-vector slice-aggregate-vector (λ c κs. search needs) (λ c. search needs) returns-3
+    (λ c. search needs) (λ c. search needs) returns-4)

@@ -17,32 +17,17 @@ abbrev μ-loop : tie.MeasureT-loop
 loop-holds : tie.Need-loop-holds Inv-loop μ-loop
 loop-holds c = entries-first _ _ _ _
 
-mul-offset : tie.Need-mul-offset Inv-loop μ-loop
-mul-offset c = search needs
-
-shared-slice-read-offset : tie.Need-shared-slice-read-offset Inv-loop μ-loop
-shared-slice-read-offset c = search needs
-
-shared-slice-read-state : tie.Need-shared-slice-read-state Inv-loop μ-loop
-shared-slice-read-state c = search needs
-
-mul-put-entry : tie.Need-mul-put-entry Inv-loop μ-loop
-mul-put-entry c = search needs
-
-add-put-entry : tie.Need-add-put-entry Inv-loop μ-loop
-add-put-entry c = search needs
-
 put-entry-requires : tie.Need-put-entry-requires Inv-loop μ-loop
-put-entry-requires c κs = let long = c .before .before .before .before .loop .inv .long in (omega arith, c .before .before .before .before .before .before .before .before .before .pre .1 (c .before .before .before .before .loop .i) (omega arith))
-
-add-i : tie.Need-add-i Inv-loop μ-loop
-add-i c = search needs
-
-loop-less : tie.Need-loop-less Inv-loop μ-loop
-loop-less c = search needs
+put-entry-requires c κs =
+    let l = c .before .before .before .before in
+    let long = l .loop .inv .long in (omega arith, l .before .before .before .before .before .pre .1 (l .loop .i) (omega arith))
 
 loop-again : tie.Need-loop-again Inv-loop μ-loop
-loop-again c = entries-next _ _ _ _ _ _ (c .before .before .before .before .before .before .before .loop .i) (c .before .before .before .before .before .before .before .loop .inv) (omega arith) (c .before .before .before .before .before .before .before .before .before .before .before .before .pre .1) (c .before .before .before .before .before .before .before .before .before .before .before .before .pre .0 .0) (c .before .before .put-entry .ensures) (c .before .before .put-entry .kept .0)
+loop-again c =
+    let pe = c .before .before in
+    let l = pe .before .before .before .before .before in
+    let s = l .before .before .before .before .before in
+    entries-next _ _ _ _ _ _ (l .loop .i) (l .loop .inv) (omega arith) (s .pre .1) (s .pre .0 .0) (pe .put-entry .ensures) (pe .put-entry .kept .0)
 
 same-length : tie.Need-same-length Inv-loop μ-loop
 same-length c = c .before .loop .inv .long
@@ -54,17 +39,6 @@ pub put-entries-spec : {M : Type 1} → statement M
 put-entries-spec =
     tie.close
     (tie.spec
-    Inv-loop
-    μ-loop
-    loop-holds
-    mul-offset
-    shared-slice-read-offset
-    shared-slice-read-state
-    mul-put-entry
-    add-put-entry
-    put-entry-requires
-    add-i
-    loop-less
-    loop-again
-    same-length
+    Inv-loop μ-loop loop-holds (λ c. search needs) (λ c. search needs) (λ c. search needs) (λ c. search needs)
+    (λ c. search needs) put-entry-requires (λ c. search needs) (λ c. search needs) loop-again same-length
     returns)

@@ -21,7 +21,9 @@ same-length : tie.Need-same-length
 same-length c = search needs
 
 returns : tie.Need-returns
-returns c = cleared _ _ (c .before .before .before .before .before .args .from) (c .before .before .before .before .before .args .to) (c .before .before .before .before .before .pre .0) (c .before .before .before .before .before .pre .1) (c .before .before .clear .ensures)
+returns c =
+    let s = c .before .before .before .before .before in
+    cleared _ _ (s .args .from) (s .args .to) (s .pre .0) (s .pre .1) (c .before .before .clear .ensures)
 
 pub clear-part-spec : {M : Type 1} → statement M
 clear-part-spec =

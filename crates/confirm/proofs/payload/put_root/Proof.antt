@@ -1,7 +1,7 @@
 -- `manifest_payload::put_root` meets its contract: the fields, zeros, and the checksum of both.
 -- Assumes nothing.
 use Prim.Native.Nat.{ℕ, _+_, _≤_}
-use mathlib.Core.Path.{sym, ap, _∙_}
+use mathlib.Core.Path.{_≡_, sym, ap, _∙_}
 use native.Mathlib.Omega.{arith}
 use lib.ListN.{length}
 use lib.Seq.{length-take-le}
@@ -33,100 +33,86 @@ round-up-requires-2 : tie.Need-round-up-requires-2
 unfolding payloadLength recordBy round64
 round-up-requires-2 c κs = omega (arith, c .before .before .pre .1, c .round-up .ensures)
 
-add-end : tie.Need-add-end
-add-end c = search needs
-
 add-end-2 : tie.Need-add-end-2
 unfolding payloadLength recordBy round64
 add-end-2 c = omega (arith, c .before .before .before .pre .1, c .before .round-up .ensures, c .round-up2 .ensures)
 
-slice-aggregate-copy : tie.Need-slice-aggregate-copy
-slice-aggregate-copy c = search needs
+-- Where the six fields are put: the steps to there, and the record's length, which none of them changes.
+module _ (p6 : tie.After-put6) where
+  abbrev p5 : tie.After-put5
+  p5 = p6 .before .before .before .before
 
-copy-requires : tie.Need-copy-requires
-copy-requires c κs = search needs
+  abbrev p4 : tie.After-put4
+  p4 = p5 .before .before .before .before
 
-put-requires : tie.Need-put-requires
-put-requires c κs = search needs
+  abbrev p3 : tie.After-put3
+  p3 = p4 .before .before .before .before
 
-put-requires-2 : tie.Need-put-requires-2
-put-requires-2 c κs = search needs
+  abbrev p2 : tie.After-put2
+  p2 = p3 .before .before .before .before
 
-put-requires-3 : tie.Need-put-requires-3
-put-requires-3 c κs = search needs
+  abbrev p1 : tie.After-put
+  p1 = p2 .before .before .before .before
 
-put-requires-4 : tie.Need-put-requires-4
-put-requires-4 c κs = search needs
+  abbrev cy : tie.After-copy
+  cy = p1 .before .before .before .before
 
-put-requires-5 : tie.Need-put-requires-5
-put-requires-5 c κs = search needs
+  abbrev s : tie.Start
+  s = cy .before .before .before .before .before .before
 
-put-requires-6 : tie.Need-put-requires-6
-put-requires-6 c κs = search needs
+  kept : length (p6 .put6 .last .0) ≡ length (s .args .buf .now)
+  kept =
+      p6 .put6 .kept .0 ∙ p5 .put5 .kept .0 ∙ p4 .put4 .kept .0 ∙ p3 .put3 .kept .0 ∙ p2 .put2 .kept .0
+      ∙ p1 .put .kept .0 ∙ cy .copy .kept .0
+
+room : (cp : tie.After-clear-part) → 4096 ≤ length (cp .clear-part .last .0)
+room cp =
+    let p6 = cp .before .before .before .before in
+    omega (arith, cp .clear-part .kept .0, kept p6, s p6 .pre .0)
 
 clear-part-requires : tie.Need-clear-part-requires
-clear-part-requires c κs = (
-  omega arith,
-  omega (arith, c .before .before .before .before .before .before .before .before .before .before .before .before .before .before .before .before .before .before .before .before .before .before .before .before .before .before .before .before .before .before .before .before .before .pre .0, c .before .before .before .before .before .before .before .before .before .before .before .before .before .before .before .before .before .before .before .before .before .before .before .before .before .before .before .copy .kept .0, c .before .before .before .before .before .before .before .before .before .before .before .before .before .before .before .before .before .before .before .before .before .before .before .put .kept .0, c .before .before .before .before .before .before .before .before .before .before .before .before .before .before .before .before .before .before .before .put2 .kept .0, c .before .before .before .before .before .before .before .before .before .before .before .before .before .before .before .put3 .kept .0, c .before .before .before .before .before .before .before .before .before .before .before .put4 .kept .0, c .before .before .before .before .before .before .before .put5 .kept .0, c .before .before .before .put6 .kept .0),
-)
+clear-part-requires c κs =
+    let p6 = c .before .before .before in
+    (omega arith, omega (arith, s p6 .pre .0, kept p6))
 
 slice-reshare-prefix-checksum : tie.Need-slice-reshare-prefix-checksum
-slice-reshare-prefix-checksum c =
-    omega (arith, c .before .before .before .before .before .before .before .before .before .before .before .before .before .before .before .before .before .before .before .before .before .before .before .before .before .before .before .before .before .before .before .before .before .before .before .before .pre .0, c .before .before .before .before .before .before .before .before .before .before .before .before .before .before .before .before .before .before .before .before .before .before .before .before .before .before .before .before .before .before .copy .kept .0, c .before .before .before .before .before .before .before .before .before .before .before .before .before .before .before .before .before .before .before .before .before .before .before .before .before .before .put .kept .0, c .before .before .before .before .before .before .before .before .before .before .before .before .before .before .before .before .before .before .before .before .before .before .put2 .kept .0, c .before .before .before .before .before .before .before .before .before .before .before .before .before .before .before .before .before .before .put3 .kept .0, c .before .before .before .before .before .before .before .before .before .before .before .before .before .before .put4 .kept .0, c .before .before .before .before .before .before .before .before .before .before .put5 .kept .0, c .before .before .before .before .before .before .put6 .kept .0, c .before .before .clear-part .kept .0)
+slice-reshare-prefix-checksum c = omega (arith, room (c .before .before))
 
 slice-aggregate-checksum : tie.Need-slice-aggregate-checksum
 slice-aggregate-checksum c =
-    let h : 4092 ≤ length (c .before .before .before .clear-part .last .0) =
-    omega (arith, c .before .before .before .before .before .before .before .before .before .before .before .before .before .before .before .before .before .before .before .before .before .before .before .before .before .before .before .before .before .before .before .before .before .before .before .before .before .pre .0, c .before .before .before .before .before .before .before .before .before .before .before .before .before .before .before .before .before .before .before .before .before .before .before .before .before .before .before .before .before .before .before .copy .kept .0, c .before .before .before .before .before .before .before .before .before .before .before .before .before .before .before .before .before .before .before .before .before .before .before .before .before .before .before .put .kept .0, c .before .before .before .before .before .before .before .before .before .before .before .before .before .before .before .before .before .before .before .before .before .before .before .put2 .kept .0, c .before .before .before .before .before .before .before .before .before .before .before .before .before .before .before .before .before .before .before .put3 .kept .0, c .before .before .before .before .before .before .before .before .before .before .before .before .before .before .before .put4 .kept .0, c .before .before .before .before .before .before .before .before .before .before .before .put5 .kept .0, c .before .before .before .before .before .before .before .put6 .kept .0, c .before .before .before .clear-part .kept .0) in
-    sym (length-take-le 4092 (c .before .before .before .clear-part .last .0) h)
-
-checksum-requires : tie.Need-checksum-requires
-checksum-requires c κs = search needs
-
-cast-put : tie.Need-cast-put
-cast-put c = search needs
+    let cp = c .before .before .before in
+    sym (length-take-le 4092 (cp .clear-part .last .0) (omega (arith, room cp)))
 
 put-requires-7 : tie.Need-put-requires-7
-put-requires-7 c κs =
-    omega (arith, c .before .before .before .before .before .before .before .before .before .before .before .before .before .before .before .before .before .before .before .before .before .before .before .before .before .before .before .before .before .before .before .before .before .before .before .before .before .before .before .pre .0, c .before .before .before .before .before .before .before .before .before .before .before .before .before .before .before .before .before .before .before .before .before .before .before .before .before .before .before .before .before .before .before .before .before .copy .kept .0, c .before .before .before .before .before .before .before .before .before .before .before .before .before .before .before .before .before .before .before .before .before .before .before .before .before .before .before .before .before .put .kept .0, c .before .before .before .before .before .before .before .before .before .before .before .before .before .before .before .before .before .before .before .before .before .before .before .before .before .put2 .kept .0, c .before .before .before .before .before .before .before .before .before .before .before .before .before .before .before .before .before .before .before .before .before .put3 .kept .0, c .before .before .before .before .before .before .before .before .before .before .before .before .before .before .before .before .before .put4 .kept .0, c .before .before .before .before .before .before .before .before .before .before .before .before .before .put5 .kept .0, c .before .before .before .before .before .before .before .before .before .put6 .kept .0, c .before .before .before .before .before .clear-part .kept .0)
+put-requires-7 c κs = omega (arith, room (c .before .before .before .before .before))
 
 same-length : tie.Need-same-length
 same-length c =
-    c .before .before .put7 .kept .0 ∙ c .before .before .before .before .before .before .before .before .clear-part .kept .0 ∙ c .before .before .before .before .before .before .before .before .before .before .before .before .put6 .kept .0 ∙ c .before .before .before .before .before .before .before .before .before .before .before .before .before .before .before .before .put5 .kept .0 ∙ c .before .before .before .before .before .before .before .before .before .before .before .before .before .before .before .before .before .before .before .before .put4 .kept .0 ∙ c .before .before .before .before .before .before .before .before .before .before .before .before .before .before .before .before .before .before .before .before .before .before .before .before .put3 .kept .0 ∙ c .before .before .before .before .before .before .before .before .before .before .before .before .before .before .before .before .before .before .before .before .before .before .before .before .before .before .before .before .put2 .kept .0 ∙ c .before .before .before .before .before .before .before .before .before .before .before .before .before .before .before .before .before .before .before .before .before .before .before .before .before .before .before .before .before .before .before .before .put .kept .0 ∙ c .before .before .before .before .before .before .before .before .before .before .before .before .before .before .before .before .before .before .before .before .before .before .before .before .before .before .before .before .before .before .before .before .before .before .before .before .copy .kept .0
+    let cp = c .before .before .before .before .before .before .before .before in
+    c .before .before .put7 .kept .0 ∙ cp .clear-part .kept .0 ∙ kept (cp .before .before .before .before)
 
 returns : tie.Need-returns
 unfolding payloadLength recordBy
 returns c =
-    root-laid (c .before .before .before .before .before .before .before .before .before .before .before .before .before .before .before .before .before .before .before .before .before .before .before .before .before .before .before .before .before .before .before .before .before .before .before .before .before .before .before .before .before .before .args .buf .now) (c .before .before .before .before .before .before .before .before .before .before .before .before .before .before .before .before .before .before .before .before .before .before .before .before .before .before .before .before .before .before .before .before .before .before .before .before .before .before .before .before .before .before .args .c) (c .before .before .before .before .before .before .before .before .before .before .before .before .before .before .before .before .before .before .before .before .before .before .before .before .before .before .before .before .before .before .before .before .before .before .before .before .before .before .before .before .before .before .args .offset) (c .before .before .before .before .before .before .before .before .before .before .before .before .before .before .before .before .before .before .before .before .before .before .before .before .before .before .before .before .before .before .before .before .before .before .before .before .before .before .before .before .before .before .args .id) (c .before .before .before .before .before .before .before .before .before .before .before .before .before .before .before .before .before .before .before .before .before .before .before .before .before .before .before .before .before .before .before .before .before .before .before .before .before .before .before .before .before .before .pre .0) _ _ _
-    (fields-laid (c .before .before .before .before .before .before .before .before .before .before .before .before .before .before .before .before .before .before .before .before .before .before .before .before .before .before .before .before .before .before .before .before .before .before .before .before .before .before .before .before .before .before .args .buf .now) (c .before .before .before .before .before .before .before .before .before .before .before .before .before .before .before .before .before .before .before .before .before .before .before .before .before .before .before .before .before .before .before .before .before .before .before .before .before .before .before .before .before .before .args .c) (c .before .before .before .before .before .before .before .before .before .before .before .before .before .before .before .before .before .before .before .before .before .before .before .before .before .before .before .before .before .before .before .before .before .before .before .before .before .before .before .before .before .before .args .offset) (c .before .before .before .before .before .before .before .before .before .before .before .before .before .before .before .before .before .before .before .before .before .before .before .before .before .before .before .before .before .before .before .before .before .before .before .before .before .before .before .before .before .before .args .id) (c .before .before .before .before .before .before .before .before .before .before .before .before .before .before .before .before .before .before .before .before .before .before .before .before .before .before .before .before .before .before .before .before .before .before .before .before .before .before .before .before .before .before .pre .0) _ _ _ _ _ _ _ _ _ _ (omega arith)
-    (ap (λ (n : ℕ). c .before .before .before .before .before .before .before .before .before .before .before .before .before .before .before .before .before .before .before .before .before .before .before .before .before .before .before .before .before .before .before .before .before .before .before .before .before .before .before .before .before .before .args .offset + 64 + n) (c .before .before .before .before .before .before .before .before .before .before .before .before .before .before .before .before .before .before .before .before .before .before .before .before .before .before .before .before .before .before .before .before .before .before .before .before .before .before .before .round-up2 .ensures ∙ ap (λ (n : ℕ). round64 (n + 4096)) (c .before .before .before .before .before .before .before .before .before .before .before .before .before .before .before .before .before .before .before .before .before .before .before .before .before .before .before .before .before .before .before .before .before .before .before .before .before .before .before .before .round-up .ensures)))
-    (c .before .before .before .before .before .before .before .before .before .before .before .before .before .before .before .before .before .before .before .before .before .before .before .before .before .before .before .before .before .before .before .before .before .before .before .before .copy .ensures) (c .before .before .before .before .before .before .before .before .before .before .before .before .before .before .before .before .before .before .before .before .before .before .before .before .before .before .before .before .before .before .before .before .put .ensures) (c .before .before .before .before .before .before .before .before .before .before .before .before .before .before .before .before .before .before .before .before .before .before .before .before .before .before .before .before .put2 .ensures) (c .before .before .before .before .before .before .before .before .before .before .before .before .before .before .before .before .before .before .before .before .before .before .before .before .put3 .ensures) (c .before .before .before .before .before .before .before .before .before .before .before .before .before .before .before .before .before .before .before .before .put4 .ensures) (c .before .before .before .before .before .before .before .before .before .before .before .before .before .before .before .before .put5 .ensures) (c .before .before .before .before .before .before .before .before .before .before .before .before .put6 .ensures) (c .before .before .before .before .before .before .before .before .clear-part .ensures))
-    (c .before .before .before .before .checksum .ensures) (c .before .before .put7 .ensures)
+    let cs = c .before .before .before .before in
+    let cp = cs .before .before .before .before in
+    let p6 = cp .before .before .before .before in
+    let ru2 = cy p6 .before .before .before in
+    let s = ru2 .before .before .before in
+    let offset = s .args .offset in
+    root-laid (s .args .buf .now) (s .args .c) offset (s .args .id) (s .pre .0) _ _ _
+    (fields-laid (s .args .buf .now) (s .args .c) offset (s .args .id) (s .pre .0) _ _ _ _ _ _ _ _ _ _ (omega arith)
+    (ap (λ (n : ℕ). offset + 64 + n) (ru2 .round-up2 .ensures ∙ ap (λ (n : ℕ). round64 (n + 4096)) (ru2 .before .round-up .ensures)))
+    (cy p6 .copy .ensures) (p1 p6 .put .ensures) (p2 p6 .put2 .ensures) (p3 p6 .put3 .ensures) (p4 p6 .put4 .ensures) (p5 p6 .put5 .ensures)
+    (p6 .put6 .ensures) (cp .clear-part .ensures))
+    (cs .checksum .ensures) (c .before .before .put7 .ensures)
 
 pub put-root-spec : {M : Type 1} → statement M
 put-root-spec =
     tie.close
     (tie.spec
-    mul-long
-    add-long
-    round-up-requires
-    add-round-up
-    round-up-requires-2
-    add-end
-    add-end-2
-    slice-aggregate-copy
-    copy-requires
-    put-requires
-    put-requires-2
-    put-requires-3
-    put-requires-4
-    put-requires-5
-    put-requires-6
-    clear-part-requires
-    slice-reshare-prefix-checksum
-    slice-aggregate-checksum
-    checksum-requires
-    cast-put
-    put-requires-7
-    same-length
-    returns)
+    mul-long add-long round-up-requires add-round-up round-up-requires-2 (λ c. search needs) add-end-2
+    (λ c. search needs) (λ c κs. search needs) (λ c κs. search needs) (λ c κs. search needs)
+    (λ c κs. search needs) (λ c κs. search needs) (λ c κs. search needs) (λ c κs. search needs)
+    clear-part-requires slice-reshare-prefix-checksum slice-aggregate-checksum (λ c κs. search needs)
+    (λ c. search needs) put-requires-7 same-length returns)

@@ -16,77 +16,35 @@ Inv-loop s count ids₀ end i₀ prev₀ ids i prev = RawAt s count i prev ids �
 abbrev μ-loop : tie.MeasureT-loop
 μ-loop s count ids₀ end i₀ prev₀ ids i prev = count - i
 
-mul-end : tie.Need-mul-end Inv-loop μ-loop
-mul-end c = search needs
-
-add-end : tie.Need-add-end Inv-loop μ-loop
-add-end c = search needs
-
 returns : tie.Need-returns Inv-loop μ-loop
 returns c = broken _ _ (raw-short _ _ (omega arith))
 
 loop-holds : tie.Need-loop-holds Inv-loop μ-loop
 loop-holds c = (raw-first _ _ _, refl)
 
-mul-u64-at : tie.Need-mul-u64-at Inv-loop μ-loop
-mul-u64-at c = search needs
-
-add-u64-at : tie.Need-add-u64-at Inv-loop μ-loop
-add-u64-at c = search needs
-
-u64-at-requires : tie.Need-u64-at-requires Inv-loop μ-loop
-u64-at-requires c κs = search needs
-
-follows-requires : tie.Need-follows-requires Inv-loop μ-loop
-follows-requires c κs = search needs
-
-same-length : tie.Need-same-length Inv-loop μ-loop
-same-length c = search needs
-
 returns-2 : tie.Need-returns-2 Inv-loop μ-loop
-returns-2 c = broken _ _ (raw-room _ _ (omega arith) ∙ raw-stop _ _ _ _ _ (c .before .before .before .before .loop .inv .0) (omega arith) _ (c .before .before .u64-at .ensures) (sym (c .before .follows .ensures) ∙ not-true _ (c .if2 .taken)))
-
-mul-ids : tie.Need-mul-ids Inv-loop μ-loop
-mul-ids c = search needs
-
-slice-write-ids : tie.Need-slice-write-ids Inv-loop μ-loop
-slice-write-ids c = search needs
-
-add-i : tie.Need-add-i Inv-loop μ-loop
-add-i c = search needs
-
-loop-less : tie.Need-loop-less Inv-loop μ-loop
-loop-less c = search needs
+returns-2 c = broken _ _
+    (raw-room _ _ (omega arith) ∙ raw-stop _ _ _ _ _ (c .before .before .before .before .loop .inv .0)
+    (omega arith) _ (c .before .before .u64-at .ensures)
+    (sym (c .before .follows .ensures) ∙ not-true _ (c .if2 .taken)))
 
 loop-again : tie.Need-loop-again Inv-loop μ-loop
-loop-again c = (raw-next _ _ _ _ _ (c .before .before .before .before .loop .inv .0) (omega arith) _ (c .before .before .u64-at .ensures) (sym (c .before .follows .ensures) ∙ not-false _ (c .if2 .left)) (omega arith), search needs)
-
-same-length-2 : tie.Need-same-length-2 Inv-loop μ-loop
-same-length-2 c = search needs
+loop-again c = (
+  raw-next _ _ _ _ _ (c .before .before .before .before .loop .inv .0) (omega arith) _
+      (c .before .before .u64-at .ensures) (sym (c .before .follows .ensures) ∙ not-false _ (c .if2 .left))
+      (omega arith),
+  search needs,
+)
 
 returns-3 : tie.Need-returns-3 Inv-loop μ-loop
-returns-3 c = whole _ _ (c .before .before .before .before .before .args .count) (c .before .loop .ids) (raw-room _ _ (omega arith) ∙ raw-last _ _ _ _ _ (c .before .loop .inv .0) (omega arith)) (omega arith)
+returns-3 c = whole _ _ (c .before .before .before .before .before .args .count) (c .before .loop .ids)
+    (raw-room _ _ (omega arith) ∙ raw-last _ _ _ _ _ (c .before .loop .inv .0) (omega arith)) (omega arith)
 
 pub decode-raw-spec : {M : Type 1} → statement M
 decode-raw-spec =
     tie.close
     (tie.spec
-    Inv-loop
-    μ-loop
-    mul-end
-    add-end
-    returns
-    loop-holds
-    mul-u64-at
-    add-u64-at
-    u64-at-requires
-    follows-requires
-    same-length
-    returns-2
-    mul-ids
-    slice-write-ids
-    add-i
-    loop-less
-    loop-again
-    same-length-2
-    returns-3)
+    Inv-loop μ-loop (λ c. search needs) (λ c. search needs) returns loop-holds (λ c. search needs)
+    (λ c. search needs) (λ c κs. search needs) (λ c κs. search needs) (λ c. search needs) returns-2
+    (λ c. search needs) (λ c. search needs) (λ c. search needs) (λ c. search needs) loop-again
+    (λ c. search needs) returns-3)

@@ -11,54 +11,41 @@ use Rattle.idmap_read.proofs.delta.next_id.Tie as tie
 u32-at-requires : tie.Need-u32-at-requires
 u32-at-requires c κs = c .before .before .pre .0 (c .if1 .taken)
 
-cast-if2 : tie.Need-cast-if2
-cast-if2 c = search needs
-
 returns : tie.Need-returns
 returns c = next-place _ _ _ _ _ (c .before .before .if1 .taken) (λ e. c .if2 .taken (c .before .u32-at .ensures ∙ e))
 
-follows-requires : tie.Need-follows-requires
-follows-requires c κs = search needs
-
 returns-2 : tie.Need-returns-2
-returns-2 c = next-start _ _ _ _ _ (c .before .before .before .before .if1 .taken) (sym (c .before .before .before .u32-at .ensures) ∙ c .before .before .if2 .left) (sym (c .before .follows .ensures) ∙ c .if3 .taken)
+returns-2 c =
+    let e2 = c .before .before in
+    next-start _ _ _ _ _ (e2 .before .before .if1 .taken) (sym (e2 .before .u32-at .ensures) ∙ e2 .if2 .left)
+    (sym (c .before .follows .ensures) ∙ c .if3 .taken)
 
 returns-3 : tie.Need-returns-3
-returns-3 c = next-low _ _ _ _ _ (c .before .before .before .before .if1 .taken) (sym (c .before .before .before .u32-at .ensures) ∙ c .before .before .if2 .left) (sym (c .before .follows .ensures) ∙ c .if3 .left)
+returns-3 c =
+    let e2 = c .before .before in
+    next-low _ _ _ _ _ (e2 .before .before .if1 .taken) (sym (e2 .before .u32-at .ensures) ∙ e2 .if2 .left)
+    (sym (c .before .follows .ensures) ∙ c .if3 .left)
 
 returns-4 : tie.Need-returns-4
 returns-4 c = next-none _ _ _ _ _ (omega arith) (c .if4 .taken)
 
-sub-if5 : tie.Need-sub-if5
-sub-if5 c = search needs
-
 returns-5 : tie.Need-returns-5
 returns-5 c =
-    let some : c .before .before .before .before .args .i ≡ 0 → ⊥ = λ z. c .before .before .if1 .left (c .before .before .before .before .pre .1 z) in
-    let low = low-some (c .before .before .before .before .args .i) (c .before .before .before .before .args .prev) (omega arith) in
+    let s = c .before .before .before .before in
+    let some : s .args .i ≡ 0 → ⊥ = λ z. c .before .before .if1 .left (s .pre .1 z) in
+    let low = low-some (s .args .i) (s .args .prev) (omega arith) in
     next-over _ _ _ _ _ (omega arith) (omega arith) (omega arith)
-
-add-t13 : tie.Need-add-t13
-add-t13 c = search needs
 
 returns-6 : tie.Need-returns-6
 returns-6 c =
-    let some : c .before .before .before .before .args .i ≡ 0 → ⊥ = λ z. c .before .before .if1 .left (c .before .before .before .before .pre .1 z) in
-    let low = low-some (c .before .before .before .before .args .i) (c .before .before .before .before .args .prev) (omega arith) in
+    let s = c .before .before .before .before in
+    let some : s .args .i ≡ 0 → ⊥ = λ z. c .before .before .if1 .left (s .pre .1 z) in
+    let low = low-some (s .args .i) (s .args .prev) (omega arith) in
     next-sum _ _ _ _ _ (omega arith) (omega arith) (omega arith) _ (omega arith)
 
 pub next-id-spec : {M : Type 1} → statement M
 next-id-spec =
     tie.close
     (tie.spec
-    u32-at-requires
-    cast-if2
-    returns
-    follows-requires
-    returns-2
-    returns-3
-    returns-4
-    sub-if5
-    returns-5
-    add-t13
-    returns-6)
+    u32-at-requires (λ c. search needs) returns (λ c κs. search needs) returns-2 returns-3 returns-4
+    (λ c. search needs) returns-5 (λ c. search needs) returns-6)

@@ -20,36 +20,20 @@ abbrev μ-loop : tie.MeasureT-loop
 loop-holds : tie.Need-loop-holds Inv-loop μ-loop
 loop-holds c = len-first _ _ (ids-first _ (c .before .pre .1 .1))
 
-mul-x : tie.Need-mul-x Inv-loop μ-loop
-mul-x c = search needs
-
-shared-slice-read-x : tie.Need-shared-slice-read-x Inv-loop μ-loop
-shared-slice-read-x c = search needs
-
 delta-requires : tie.Need-delta-requires Inv-loop μ-loop
 delta-requires c κs = ids-above _ _ _ _ (c .before .before .loop .inv .at) (omega arith)
-
-encoded-len-requires : tie.Need-encoded-len-requires Inv-loop μ-loop
-encoded-len-requires c κs = search needs
 
 add-total : tie.Need-add-total Inv-loop μ-loop
 add-total c =
     let small = c .before .before .before .before .loop .inv .small in
     omega arith
 
-left-after-requires : tie.Need-left-after-requires Inv-loop μ-loop
-left-after-requires c κs = search needs
-
-add-i : tie.Need-add-i Inv-loop μ-loop
-add-i c = search needs
-
-loop-less : tie.Need-loop-less Inv-loop μ-loop
-loop-less c = search needs
-
 loop-again : tie.Need-loop-again Inv-loop μ-loop
 loop-again c =
+    let el = c .before in
     rw (c .left-after .ensures)
-    (len-next _ _ _ _ _ _ _ (c .before .before .before .before .before .loop .inv) (omega arith) (rw (c .before .before .delta .ensures) at (c .before .encoded-len .ensures .0)) (c .before .encoded-len .ensures .1))
+    (len-next _ _ _ _ _ _ _ (el .before .before .before .before .loop .inv) (omega arith)
+    (rw (el .before .delta .ensures) at (el .encoded-len .ensures .0)) (el .encoded-len .ensures .1))
 
 returns : tie.Need-returns Inv-loop μ-loop
 returns c = len-last _ _ _ _ _ _ (c .before .loop .inv) (omega arith)
@@ -58,16 +42,5 @@ pub deltas-len-spec : {M : Type 1} → statement M
 deltas-len-spec =
     tie.close
     (tie.spec
-    Inv-loop
-    μ-loop
-    loop-holds
-    mul-x
-    shared-slice-read-x
-    delta-requires
-    encoded-len-requires
-    add-total
-    left-after-requires
-    add-i
-    loop-less
-    loop-again
-    returns)
+    Inv-loop μ-loop loop-holds (λ c. search needs) (λ c. search needs) delta-requires (λ c κs. search needs)
+    add-total (λ c κs. search needs) (λ c. search needs) (λ c. search needs) loop-again returns)

@@ -20,62 +20,58 @@ abbrev μ-loop : tie.MeasureT-loop
 loop-holds : tie.Need-loop-holds Inv-loop μ-loop
 loop-holds c = put-first _ _ _ _ (ids-first _ (c .before .before .pre .0 .1))
 
-mul-x : tie.Need-mul-x Inv-loop μ-loop
-mul-x c = search needs
-
-shared-slice-read-x : tie.Need-shared-slice-read-x Inv-loop μ-loop
-shared-slice-read-x c = search needs
-
 delta-requires : tie.Need-delta-requires Inv-loop μ-loop
 delta-requires c κs = ids-above _ _ _ _ (c .before .before .loop .inv .at) (omega arith)
 
 sub-put-restart : tie.Need-sub-put-restart Inv-loop μ-loop
-sub-put-restart c = omega (arith, put-behind _ _ _ _ _ _ _ _ _ _ (c .before .before .before .before .loop .inv) (omega arith) (c .before .before .before .before .before .before .before .pre .1 .0) (c .before .before .before .before .before .before .before .pre .1 .1))
+sub-put-restart c =
+    let l = c .before .before .before .before in
+    let s = l .before .before .before in
+    omega (arith, put-behind _ _ _ _ _ _ _ _ _ _ (l .loop .inv) (omega arith) (s .pre .1 .0) (s .pre .1 .1))
 
 put-restart-requires : tie.Need-put-restart-requires Inv-loop μ-loop
-put-restart-requires c κs = put-offs _ _ _ _ _ _ _ _ _ _ (c .before .before .before .before .loop .inv) (omega arith) (c .before .before .before .before .before .before .before .pre .1 .0) (c .before .before .before .before .before .before .before .pre .1 .1)
+put-restart-requires c κs =
+    let l = c .before .before .before .before in
+    let s = l .before .before .before in
+    put-offs _ _ _ _ _ _ _ _ _ _ (l .loop .inv) (omega arith) (s .pre .1 .0) (s .pre .1 .1)
 
 put-requires : tie.Need-put-requires Inv-loop μ-loop
-put-requires c κs = rw (c .before .before .before .before .before .delta .ensures) (omega (arith, c .before .before .before .put-restart .kept .0, put-vars _ _ _ _ _ _ _ _ _ _ (c .before .before .before .before .before .before .before .before .loop .inv) (omega arith) (c .before .before .before .before .before .before .before .before .before .before .before .pre .1 .0) (c .before .before .before .before .before .before .before .before .before .before .before .pre .1 .1)))
-
-left-after-requires : tie.Need-left-after-requires Inv-loop μ-loop
-left-after-requires c κs = search needs
-
-add-i : tie.Need-add-i Inv-loop μ-loop
-add-i c = search needs
-
-loop-less : tie.Need-loop-less Inv-loop μ-loop
-loop-less c = search needs
+put-requires c κs =
+    let pr = c .before .before .before in
+    let l = pr .before .before .before .before .before in
+    let s = l .before .before .before in
+    rw (pr .before .before .delta .ensures)
+    (omega (
+      arith,
+      pr .put-restart .kept .0,
+      put-vars _ _ _ _ _ _ _ _ _ _ (l .loop .inv) (omega arith)
+          (s .pre .1 .0) (s .pre .1 .1),
+    ))
 
 loop-again : tie.Need-loop-again Inv-loop μ-loop
 loop-again c =
-    let d = c .before .before .before .before .before .before .before .before .before .delta .ensures in
+    let p = c .before .before .before in
+    let pr = p .before .before .before .before in
+    let l = pr .before .before .before .before .before in
+    let s = l .before .before .before in
+    let d = pr .before .before .delta .ensures in
     rw (c .left-after .ensures)
-    (put-next _ _ _ _ _ _ _ _ _ _ (c .before .before .before .before .before .before .before .before .before .before .before .before .loop .inv) (omega arith) (c .before .before .before .before .before .before .before .before .before .before .before .before .before .before .before .pre .1 .0) (c .before .before .before .before .before .before .before .before .before .before .before .before .before .before .before .pre .1 .1) _ _ _ _ (c .before .before .before .before .before .before .before .put-restart .ensures .1) (c .before .before .before .before .before .before .before .put-restart .ensures .0)
-    (rw d at (c .before .before .before .put .ensures .1)) (rw d at (c .before .before .before .put .ensures .0)) (c .before .before .before .put .kept .0 ∙ c .before .before .before .before .before .before .before .put-restart .kept .0))
+    (put-next _ _ _ _ _ _ _ _ _ _ (l .loop .inv) (omega arith) (s .pre .1 .0) (s .pre .1 .1) _ _ _ _
+    (pr .put-restart .ensures .1) (pr .put-restart .ensures .0)
+    (rw d at (p .put .ensures .1)) (rw d at (p .put .ensures .0)) (p .put .kept .0 ∙ pr .put-restart .kept .0))
 
 same-length : tie.Need-same-length Inv-loop μ-loop
 same-length c = c .before .loop .inv .long
 
 returns : tie.Need-returns Inv-loop μ-loop
-returns c = put-last _ _ _ _ _ _ _ _ _ _ (c .before .loop .inv) (omega arith) (c .before .before .before .before .pre .1 .0) (c .before .before .before .before .pre .1 .1)
+returns c =
+    let s = c .before .before .before .before in
+    put-last _ _ _ _ _ _ _ _ _ _ (c .before .loop .inv) (omega arith) (s .pre .1 .0) (s .pre .1 .1)
 
 pub put-deltas-spec : {M : Type 1} → statement M
 put-deltas-spec =
     tie.close
     (tie.spec
-    Inv-loop
-    μ-loop
-    loop-holds
-    mul-x
-    shared-slice-read-x
-    delta-requires
-    sub-put-restart
-    put-restart-requires
-    put-requires
-    left-after-requires
-    add-i
-    loop-less
-    loop-again
-    same-length
-    returns)
+    Inv-loop μ-loop loop-holds (λ c. search needs) (λ c. search needs) delta-requires sub-put-restart
+    put-restart-requires put-requires (λ c κs. search needs) (λ c. search needs) (λ c. search needs) loop-again
+    same-length returns)

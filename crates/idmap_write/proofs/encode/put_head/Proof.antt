@@ -15,13 +15,22 @@ put-requires : tie.Need-put-requires
 put-requires c κs = simp length-set (omega arith)
 
 put-requires-2 : tie.Need-put-requires-2
-put-requires-2 c κs = omega (arith, c .before .before .before .put .kept .0, length-set (c .before .before .before .before .before .before .args .buf .now) 0 (c .before .before .before .before .before .before .args .encoding))
+put-requires-2 c κs =
+    let p = c .before .before .before in
+    let s = p .before .before .before in
+    omega (arith, p .put .kept .0, length-set (s .args .buf .now) 0 (s .args .encoding))
 
 same-length : tie.Need-same-length
-same-length c = c .before .before .put2 .kept .0 ∙ c .before .before .before .before .before .before .put .kept .0 ∙ length-set (c .before .before .before .before .before .before .before .before .before .args .buf .now) 0 (c .before .before .before .before .before .before .before .before .before .args .encoding)
+same-length c =
+    let p = c .before .before .before .before .before .before in
+    let s = p .before .before .before in
+    c .before .before .put2 .kept .0 ∙ p .put .kept .0 ∙ length-set (s .args .buf .now) 0 (s .args .encoding)
 
 returns : tie.Need-returns
-returns c = head-laid (c .before .before .before .before .before .before .before .before .before .args .buf .now) _ _ _ _ _ (c .before .before .before .before .before .before .before .before .before .pre) (c .before .before .before .before .before .before .put .ensures) (c .before .before .put2 .ensures)
+returns c =
+    let p = c .before .before .before .before .before .before in
+    let s = p .before .before .before in
+    head-laid (s .args .buf .now) _ _ _ _ _ (s .pre) (p .put .ensures) (c .before .before .put2 .ensures)
 
 pub put-head-spec : {M : Type 1} → statement M
 put-head-spec =

@@ -14,24 +14,31 @@ use Rattle.idmap_write.proofs.encode.put_restart.Tie as tie
 
 put-requires : tie.Need-put-requires
 unfolding restartOf
-put-requires c κs = omega (arith, rw (c .before .if1 .taken, length-leBytes 4 (c .before .before .before .args .at)) at (c .before .before .before .pre))
+put-requires c κs =
+    let s = c .before .before .before in
+    omega (arith, rw (c .before .if1 .taken, length-leBytes 4 (s .args .at)) at (s .pre))
 
 add-result : tie.Need-add-result
 unfolding restartOf
-add-result c = omega (arith, rw (c .before .before .before .before .if1 .taken, length-leBytes 4 (c .before .before .before .before .before .before .args .at)) at (c .before .before .before .before .before .before .pre))
+add-result c =
+    let t1 = c .before .before .before .before in
+    omega (arith, rw (t1 .if1 .taken, length-leBytes 4 (t1 .before .before .args .at)) at (t1 .before .before .pre))
 
 same-length : tie.Need-same-length
 same-length c = search needs
 
 returns : tie.Need-returns
 unfolding restartOf
-returns c = rw (c .before .before .before .before .if1 .taken) (rw (length-leBytes 4 (c .before .before .before .before .before .before .args .at)) refl, c .before .before .put .ensures)
+returns c =
+    let t1 = c .before .before .before .before in
+    rw (t1 .if1 .taken) (rw (length-leBytes 4 (t1 .before .before .args .at)) refl, c .before .before .put .ensures)
 
 returns-2 : tie.Need-returns-2
 unfolding restartOf
 returns-2 c =
-    let e : c .before .before .args .left ≡ suc (c .before .before .args .left - 1) = omega arith in
-    rw e (sym (add-zero (c .before .before .args .place)), sym (over-none (c .before .before .args .buf .now) (c .before .before .args .place)))
+    let s = c .before .before in
+    let e : s .args .left ≡ suc (s .args .left - 1) = omega arith in
+    rw e (sym (add-zero (s .args .place)), sym (over-none (s .args .buf .now) (s .args .place)))
 
 pub put-restart-spec : {M : Type 1} → statement M
 put-restart-spec = tie.close (tie.spec put-requires add-result same-length returns returns-2)

@@ -14,29 +14,19 @@ returns c = bad-none _ _ _ (omega arith)
 returns-2 : tie.Need-returns-2
 returns-2 c = bad-many _ _ _ (omega arith)
 
-interval-held-requires : tie.Need-interval-held-requires
-interval-held-requires c κs = search needs
-
 returns-3 : tie.Need-returns-3
 returns-3 c = bad-interval _ _ _ (omega arith) (omega arith) (sym (c .before .interval-held .ensures) ∙ not-true _ (c .if3 .taken))
 
-rising-requires : tie.Need-rising-requires
-rising-requires c κs = search needs
-
 returns-4 : tie.Need-returns-4
-returns-4 c = bad-not _ _ _ (omega arith) (omega arith) (sym (c .before .before .before .interval-held .ensures) ∙ not-false _ (c .before .before .if3 .left)) (sym (c .before .rising .ensures) ∙ c .if4 .taken)
+returns-4 c = bad-not _ _ _ (omega arith) (omega arith) (sym (c .before .before .before .interval-held .ensures)
+    ∙ not-false _ (c .before .before .if3 .left)) (sym (c .before .rising .ensures) ∙ c .if4 .taken)
 
 returns-5 : tie.Need-returns-5
-returns-5 c = bad-ids _ _ _ (omega arith) (omega arith) (sym (c .before .before .before .interval-held .ensures) ∙ not-false _ (c .before .before .if3 .left)) (sym (c .before .rising .ensures) ∙ c .if4 .left)
+returns-5 c = bad-ids _ _ _ (omega arith) (omega arith) (sym (c .before .before .before .interval-held .ensures)
+    ∙ not-false _ (c .before .before .if3 .left)) (sym (c .before .rising .ensures) ∙ c .if4 .left)
 
 pub refusal-spec : {M : Type 1} → statement M
 refusal-spec =
     tie.close
     (tie.spec
-    returns
-    returns-2
-    interval-held-requires
-    returns-3
-    rising-requires
-    returns-4
-    returns-5)
+    returns returns-2 (λ c κs. search needs) returns-3 (λ c κs. search needs) returns-4 returns-5)

@@ -19,26 +19,13 @@ abbrev μ-loop : tie.MeasureT-loop
 loop-holds : tie.Need-loop-holds Inv-loop μ-loop
 loop-holds c = rise-first _
 
-mul-x : tie.Need-mul-x Inv-loop μ-loop
-mul-x c = search needs
-
-shared-slice-read-x : tie.Need-shared-slice-read-x Inv-loop μ-loop
-shared-slice-read-x c = search needs
-
-follows-requires : tie.Need-follows-requires Inv-loop μ-loop
-follows-requires c κs = search needs
-
 returns : tie.Need-returns Inv-loop μ-loop
-returns c = rise-stop _ _ _ (c .before .before .before .before .loop .inv) (omega arith) (sym (c .before .follows .ensures) ∙ not-true _ (c .if1 .taken))
-
-add-i : tie.Need-add-i Inv-loop μ-loop
-add-i c = search needs
-
-loop-less : tie.Need-loop-less Inv-loop μ-loop
-loop-less c = search needs
+returns c = rise-stop _ _ _ (c .before .before .before .before .loop .inv) (omega arith)
+    (sym (c .before .follows .ensures) ∙ not-true _ (c .if1 .taken))
 
 loop-again : tie.Need-loop-again Inv-loop μ-loop
-loop-again c = rise-next _ _ _ (c .before .before .before .before .loop .inv) (omega arith) (sym (c .before .follows .ensures) ∙ not-false _ (c .if1 .left))
+loop-again c = rise-next _ _ _ (c .before .before .before .before .loop .inv) (omega arith)
+    (sym (c .before .follows .ensures) ∙ not-false _ (c .if1 .left))
 
 returns-2 : tie.Need-returns-2 Inv-loop μ-loop
 returns-2 c = rise-last _ _ _ (c .before .loop .inv) (omega arith)
@@ -47,14 +34,5 @@ pub rising-spec : {M : Type 1} → statement M
 rising-spec =
     tie.close
     (tie.spec
-    Inv-loop
-    μ-loop
-    loop-holds
-    mul-x
-    shared-slice-read-x
-    follows-requires
-    returns
-    add-i
-    loop-less
-    loop-again
-    returns-2)
+    Inv-loop μ-loop loop-holds (λ c. search needs) (λ c. search needs) (λ c κs. search needs) returns
+    (λ c. search needs) (λ c. search needs) loop-again returns-2)

@@ -1,5 +1,6 @@
 -- `list_entries::put_entries` meets its contract, by how many entries are written.
 -- Assumes nothing.
+use Rattle.opening.specs.Indexed.{EntryAt}
 use Prim.Native.Nat.{_-_}
 use native.Mathlib.Omega.{arith}
 use Rattle.octets.specs.text.Written.{same-room}
@@ -14,62 +15,73 @@ Inv-loop text₀ at file offsets manifest count end₀ i₀ text end i = Entries
 abbrev μ-loop : tie.MeasureT-loop
 μ-loop text₀ at file offsets manifest count end₀ i₀ text end i = count - i
 
+-- The entry that is written.
+module _ (b : tie.In-loop Inv-loop μ-loop) where
+  abbrev s : tie.Start Inv-loop μ-loop
+  s = b .before .before .before .before .before
+
+  entry : EntryAt (s .args .file .now) (s .args .offsets .now) (s .pre .1 .1 .found) (s .args .manifest) (b .before .loop .i)
+  entry =
+      entry-at _ _ _ _ (λ k. omega (arith, b .before .before .before .shared-slice-known .given k)) (s .pre .1 .0)
+      (s .pre .0 .0) (s .pre .1 .1) (b .before .loop .i)
+      (omega arith)
+
 loop-holds : tie.Need-loop-holds Inv-loop μ-loop
 loop-holds c = entries-first _ _ _ _ (omega arith)
 
 mul-p : tie.Need-mul-p Inv-loop μ-loop
 mul-p c =
-    let m = c .before .before .before .before .before .pre .1 .1 in
-    let a = entry-at _ _ _ _ (λ k. omega (arith, c .before .before .before .shared-slice-known .given k)) (c .before .before .before .before .before .pre .1 .0) (c .before .before .before .before .before .pre .0 .0) m (c .before .loop .i) (omega arith) in
+    let a = entry c in
     omega (arith, a .stored, a .few)
 
 shared-slice-read-p : tie.Need-shared-slice-read-p Inv-loop μ-loop
 shared-slice-read-p c =
-    let m = c .before .before .before .before .before .before .pre .1 .1 in
-    let a = entry-at _ _ _ _ (λ k. omega (arith, c .before .before .before .before .shared-slice-known .given k)) (c .before .before .before .before .before .before .pre .1 .0) (c .before .before .before .before .before .before .pre .0 .0) m (c .before .before .loop .i) (omega arith) in
+    let a = entry (c .before) in
     omega (arith, a .stored, a .few)
 
 add-put-entry : tie.Need-add-put-entry Inv-loop μ-loop
 add-put-entry c =
     let m = c .before .before .before .before .before .before .before .pre .1 .1 in
-    let a = entry-at _ _ _ _ (λ k. omega (arith, c .before .before .before .before .before .shared-slice-known .given k)) (c .before .before .before .before .before .before .before .pre .1 .0) (c .before .before .before .before .before .before .before .pre .0 .0) m (c .before .before .before .loop .i) (omega arith) in
+    let a = entry (c .before .before) in
     omega (arith, a .state-room, m .within, a .few)
 
 mul-put-entry : tie.Need-mul-put-entry Inv-loop μ-loop
 mul-put-entry c =
     let m = c .before .before .before .before .before .before .before .pre .1 .1 in
-    let a = entry-at _ _ _ _ (λ k. omega (arith, c .before .before .before .before .before .shared-slice-known .given k)) (c .before .before .before .before .before .before .before .pre .1 .0) (c .before .before .before .before .before .before .before .pre .0 .0) m (c .before .before .before .loop .i) (omega arith) in
+    let a = entry (c .before .before) in
     omega (arith, a .state-room, m .within, a .few)
 
 add-put-entry-2 : tie.Need-add-put-entry-2 Inv-loop μ-loop
 add-put-entry-2 c =
     let m = c .before .before .before .before .before .before .before .pre .1 .1 in
-    let a = entry-at _ _ _ _ (λ k. omega (arith, c .before .before .before .before .before .shared-slice-known .given k)) (c .before .before .before .before .before .before .before .pre .1 .0) (c .before .before .before .before .before .before .before .pre .0 .0) m (c .before .before .before .loop .i) (omega arith) in
+    let a = entry (c .before .before) in
     omega (arith, a .state-room, m .within, a .few)
 
 add-put-entry-3 : tie.Need-add-put-entry-3 Inv-loop μ-loop
 add-put-entry-3 c =
     let m = c .before .before .before .before .before .before .before .pre .1 .1 in
-    let a = entry-at _ _ _ _ (λ k. omega (arith, c .before .before .before .before .before .shared-slice-known .given k)) (c .before .before .before .before .before .before .before .pre .1 .0) (c .before .before .before .before .before .before .before .pre .0 .0) m (c .before .before .before .loop .i) (omega arith) in
+    let a = entry (c .before .before) in
     omega (arith, a .state-room, m .within, a .few)
 
 shared-slice-read-put-entry : tie.Need-shared-slice-read-put-entry Inv-loop μ-loop
 shared-slice-read-put-entry c =
-    let m = c .before .before .before .before .before .before .before .before .pre .1 .1 in
-    let a = entry-at _ _ _ _ (λ k. omega (arith, c .before .before .before .before .before .before .shared-slice-known .given k)) (c .before .before .before .before .before .before .before .before .pre .1 .0) (c .before .before .before .before .before .before .before .before .pre .0 .0) m (c .before .before .before .before .loop .i) (omega arith) in
+    let b = c .before .before .before in
+    let m = b .before .before .before .before .before .pre .1 .1 in
+    let a = entry (b) in
     omega (arith, a .state-room, m .within, a .few)
 
 put-entry-requires : tie.Need-put-entry-requires Inv-loop μ-loop
 put-entry-requires c κs =
-    let m = c .before .before .before .before .before .before .before .before .pre .1 .1 in
-    let a = entry-at _ _ _ _ (λ k. omega (arith, c .before .before .before .before .before .before .shared-slice-known .given k)) (c .before .before .before .before .before .before .before .before .pre .1 .0) (c .before .before .before .before .before .before .before .before .pre .0 .0) m (c .before .before .before .before .loop .i) (omega arith) in
-    let s = same-room (c .before .before .before .before .loop .inv .writes) in
-    (omega (arith, a .numbered .room, a .numbered .length-is), omega (arith, c .before .before .before .before .loop .inv .short, c .before .before .before .before .before .before .before .before .pre .0 .1))
+    let b = c .before .before .before in
+    let a = entry (b) in
+    let s = same-room (b .before .loop .inv .writes) in (
+      omega (arith, a .numbered .room, a .numbered .length-is),
+      omega (arith, b .before .loop .inv .short, b .before .before .before .before .before .pre .0 .1),
+    )
 
 add-i : tie.Need-add-i Inv-loop μ-loop
 add-i c =
-    let m = c .before .before .before .before .before .before .before .before .before .before .before .pre .1 .1 in
-    let a = entry-at _ _ _ _ (λ k. omega (arith, c .before .before .before .before .before .before .before .before .before .shared-slice-known .given k)) (c .before .before .before .before .before .before .before .before .before .before .before .pre .1 .0) (c .before .before .before .before .before .before .before .before .before .before .before .pre .0 .0) m (c .before .before .before .before .before .before .before .loop .i) (omega arith) in
+    let a = entry (c .before .before .before .before .before .before) in
     omega (arith, a .few)
 
 loop-less : tie.Need-loop-less Inv-loop μ-loop
@@ -77,9 +89,11 @@ loop-less c = omega arith
 
 loop-again : tie.Need-loop-again Inv-loop μ-loop
 loop-again c =
-    let m = c .before .before .before .before .before .before .before .before .before .before .before .pre .1 .1 in
-    let a = entry-at _ _ _ _ (λ k. omega (arith, c .before .before .before .before .before .before .before .before .before .shared-slice-known .given k)) (c .before .before .before .before .before .before .before .before .before .before .before .pre .1 .0) (c .before .before .before .before .before .before .before .before .before .before .before .pre .0 .0) m (c .before .before .before .before .before .before .before .loop .i) (omega arith) in
-    entries-next _ _ _ m _ _ (omega arith) a _ _ _ _ _ _ (c .before .before .before .before .before .before .before .loop .inv) (c .before .before .put-entry .ensures .0) (c .before .before .put-entry .ensures .1)
+    let pe = c .before .before in
+    let b = pe .before .before .before .before in
+    let m = b .before .before .before .before .before .pre .1 .1 in
+    let a = entry (b) in
+    entries-next _ _ _ m _ _ (omega arith) a _ _ _ _ _ _ (b .before .loop .inv) (pe .put-entry .ensures .0) (pe .put-entry .ensures .1)
 
 same-length : tie.Need-same-length Inv-loop μ-loop
 same-length c = same-room (c .before .loop .inv .writes)
@@ -91,19 +105,6 @@ pub put-entries-spec : {M : Type 1} → statement M
 put-entries-spec =
     tie.close
     (tie.spec
-    Inv-loop
-    μ-loop
-    loop-holds
-    mul-p
-    shared-slice-read-p
-    add-put-entry
-    mul-put-entry
-    add-put-entry-2
-    add-put-entry-3
-    shared-slice-read-put-entry
-    put-entry-requires
-    add-i
-    loop-less
-    loop-again
-    same-length
+    Inv-loop μ-loop loop-holds mul-p shared-slice-read-p add-put-entry mul-put-entry add-put-entry-2
+    add-put-entry-3 shared-slice-read-put-entry put-entry-requires add-i loop-less loop-again same-length
     returns)

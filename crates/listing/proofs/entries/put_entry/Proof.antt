@@ -18,7 +18,9 @@ same-length c = c .before .before .put-segment .kept .0
 
 returns : tie.Need-returns
 unfolding ascii
-returns c = (state-live _ _ _ (c .before .before .before .before .before .if1 .taken) (c .before .before .put-segment .ensures .0), c .before .before .put-segment .ensures .1)
+returns c =
+    let ps = c .before .before in
+    (state-live _ _ _ (ps .before .before .before .if1 .taken) (ps .put-segment .ensures .0), ps .put-segment .ensures .1)
 
 slice-aggregate-put-segment-2 : tie.Need-slice-aggregate-put-segment-2
 slice-aggregate-put-segment-2 c = refl
@@ -31,17 +33,13 @@ same-length-2 c = c .before .before .put-segment2 .kept .0
 
 returns-2 : tie.Need-returns-2
 unfolding ascii
-returns-2 c = (state-retired _ _ _ (c .before .before .before .before .before .if1 .left) (c .before .before .put-segment2 .ensures .0), c .before .before .put-segment2 .ensures .1)
+returns-2 c =
+    let ps2 = c .before .before in
+    (state-retired _ _ _ (ps2 .before .before .before .if1 .left) (ps2 .put-segment2 .ensures .0), ps2 .put-segment2 .ensures .1)
 
 pub put-entry-spec : {M : Type 1} → statement M
 put-entry-spec =
     tie.close
     (tie.spec
-    slice-aggregate-put-segment
-    put-segment-requires
-    same-length
-    returns
-    slice-aggregate-put-segment-2
-    put-segment-requires-2
-    same-length-2
-    returns-2)
+    slice-aggregate-put-segment put-segment-requires same-length returns slice-aggregate-put-segment-2
+    put-segment-requires-2 same-length-2 returns-2)

@@ -18,7 +18,9 @@ same-length c = c .before .before .put-bytes .kept .0
 
 returns : tie.Need-returns
 unfolding ascii
-returns c = (check-ok _ (c .before .before .before .before .before .if1 .taken) (c .before .before .put-bytes .ensures), omega (arith, c .before .before .put-bytes .ensures .ends))
+returns c =
+    let pb = c .before .before in
+    (check-ok _ (pb .before .before .before .if1 .taken) (pb .put-bytes .ensures), omega (arith, pb .put-bytes .ensures .ends))
 
 slice-aggregate-put-bytes-2 : tie.Need-slice-aggregate-put-bytes-2
 slice-aggregate-put-bytes-2 c = refl
@@ -31,17 +33,13 @@ same-length-2 c = c .before .before .put-bytes2 .kept .0
 
 returns-2 : tie.Need-returns-2
 unfolding ascii
-returns-2 c = (check-bad _ (c .before .before .before .before .before .if1 .left) (c .before .before .put-bytes2 .ensures), omega (arith, c .before .before .put-bytes2 .ensures .ends))
+returns-2 c =
+    let pb2 = c .before .before in
+    (check-bad _ (pb2 .before .before .before .if1 .left) (pb2 .put-bytes2 .ensures), omega (arith, pb2 .put-bytes2 .ensures .ends))
 
 pub put-check-spec : {M : Type 1} → statement M
 put-check-spec =
     tie.close
     (tie.spec
-    slice-aggregate-put-bytes
-    put-bytes-requires
-    same-length
-    returns
-    slice-aggregate-put-bytes-2
-    put-bytes-requires-2
-    same-length-2
-    returns-2)
+    slice-aggregate-put-bytes put-bytes-requires same-length returns slice-aggregate-put-bytes-2
+    put-bytes-requires-2 same-length-2 returns-2)

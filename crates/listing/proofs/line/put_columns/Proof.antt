@@ -30,17 +30,14 @@ same-length c = c .before .before .put-number2 .kept .0 ∙ c .before .before .b
 
 returns : tie.Need-returns
 unfolding ascii
-returns c = (then (c .before .before .before .before .before .before .before .before .put-number .ensures .0) (c .before .before .put-number2 .ensures .0), omega (arith, c .before .before .before .before .before .before .before .before .put-number .ensures .1, c .before .before .put-number2 .ensures .1))
+returns c =
+    let pn2 = c .before .before in
+    let pn = pn2 .before .before .before .before .before .before in
+    (then (pn .put-number .ensures .0) (pn2 .put-number2 .ensures .0), omega (arith, pn .put-number .ensures .1, pn2 .put-number2 .ensures .1))
 
 pub put-columns-spec : {M : Type 1} → statement M
 put-columns-spec =
     tie.close
     (tie.spec
-    slice-aggregate-put-number
-    slice-aggregate-put-number-2
-    put-number-requires
-    slice-aggregate-put-number-3
-    slice-aggregate-put-number-4
-    put-number-requires-2
-    same-length
-    returns)
+    slice-aggregate-put-number slice-aggregate-put-number-2 put-number-requires slice-aggregate-put-number-3
+    slice-aggregate-put-number-4 put-number-requires-2 same-length returns)

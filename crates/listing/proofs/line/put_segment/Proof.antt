@@ -44,28 +44,37 @@ put-check-requires : tie.Need-put-check-requires
 put-check-requires c κs = omega arith
 
 same-length : tie.Need-same-length
-same-length c = c .before .before .put-check .kept .0 ∙ c .before .before .before .before .before .before .before .put-bytes .kept .0 ∙ c .before .before .before .before .before .before .before .before .before .before .before .put-columns2 .kept .0 ∙ c .before .before .before .before .before .before .before .before .before .before .before .before .before .before .before .put-columns .kept .0
+same-length c =
+    let pb = c .before .before .before .before .before .before .before in
+    let pc2 = pb .before .before .before .before in
+    c .before .before .put-check .kept .0 ∙ pb .put-bytes .kept .0 ∙ pc2 .put-columns2 .kept .0
+    ∙ pc2 .before .before .before .before .put-columns .kept .0
 
 returns : tie.Need-returns
 returns c =
-    let z = line-written _ _ _ _ _ _ _ (c .before .before .before .before .before .before .before .before .before .before .before .before .before .before .before .before .u64-at2 .ensures) refl (c .before .before .before .before .before .before .before .before .before .before .before .before .before .before .before .before .before .before .before .u64-at .ensures) (c .before .before .before .is-whole .ensures) (c .before .before .before .before .before .before .before .before .before .before .before .before .before .before .before .put-columns .ensures .0) (c .before .before .before .before .before .before .before .before .before .before .before .put-columns2 .ensures .0) (c .before .before .before .before .before .before .before .put-bytes .ensures) (c .before .before .put-check .ensures .0) in
-    (z, omega (arith, c .before .before .before .before .before .before .before .before .before .before .before .before .before .before .before .put-columns .ensures .1, c .before .before .before .before .before .before .before .before .before .before .before .put-columns2 .ensures .1, c .before .before .before .before .before .before .before .put-bytes .ensures .ends, c .before .before .put-check .ensures .1))
+    let z = line-written _ _ _ _ _ _ _
+    (c .before .before .before .before .before .before .before .before .before .before .before .before .before .before .before .before .u64-at2 .ensures)
+    refl
+    (c .before .before .before .before .before .before .before .before .before .before .before .before .before .before .before .before .before .before .before .u64-at .ensures)
+    (c .before .before .before .is-whole .ensures)
+    (c .before .before .before .before .before .before .before .before .before .before .before .before .before .before .before .put-columns .ensures .0)
+    (c .before .before .before .before .before .before .before .before .before .before .before .put-columns2 .ensures .0)
+    (c .before .before .before .before .before .before .before .put-bytes .ensures)
+    (c .before .before .put-check .ensures .0) in (
+      z,
+      omega (
+        arith,
+        c .before .before .before .before .before .before .before .before .before .before .before .before .before .before .before .put-columns .ensures .1,
+        c .before .before .before .before .before .before .before .before .before .before .before .put-columns2 .ensures .1,
+        c .before .before .before .before .before .before .before .put-bytes .ensures .ends,
+        c .before .before .put-check .ensures .1,
+      ),
+    )
 
 pub put-segment-spec : {M : Type 1} → statement M
 put-segment-spec =
     tie.close
     (tie.spec
-    add-u64-at
-    u64-at-requires
-    add-kind
-    shared-slice-read-kind
-    cast-kind
-    add-u64-at-2
-    u64-at-requires-2
-    put-columns-requires
-    put-columns-requires-2
-    put-bytes-requires
-    is-whole-requires
-    put-check-requires
-    same-length
-    returns)
+    add-u64-at u64-at-requires add-kind shared-slice-read-kind cast-kind add-u64-at-2 u64-at-requires-2
+    put-columns-requires put-columns-requires-2 put-bytes-requires is-whole-requires put-check-requires
+    same-length returns)

@@ -15,20 +15,27 @@ put-bytes-requires c κs = omega arith
 
 put-entries-requires : tie.Need-put-entries-requires
 put-entries-requires c κs =
-    let p = c .before .before .before .before .before .before .before .before .before .pre in
-    let r = list-room _ _ _ _ _ _ (λ k. omega (arith, c .before .before .before .before .before .before .before .shared-slice-known .given k)) (p .1 .0) (p .0 .0) (p .1 .1) in
-    let w = c .before .before .before .put-bytes in
-    ((p .0 .0, omega (arith, w .ensures .ends, w .kept .0, r .1, p .0 .1)), (p .1 .0, m _ _ _ _ _ _ (λ k. omega (arith, c .before .before .before .before .before .before .before .shared-slice-known .given k)) (p .1 .0) (p .0 .0) (p .1 .1)))
+    let pb = c .before .before .before in
+    let ssk = pb .before .before .before .before in
+    let p = ssk .before .before .pre in
+    let r = list-room _ _ _ _ _ _ (λ k. omega (arith, ssk .shared-slice-known .given k)) (p .1 .0) (p .0 .0) (p .1 .1) in
+    let w = pb .put-bytes in (
+      (p .0 .0, omega (arith, w .ensures .ends, w .kept .0, r .1, p .0 .1)),
+      (p .1 .0, m _ _ _ _ _ _ (λ k. omega (arith, ssk .shared-slice-known .given k)) (p .1 .0) (p .0 .0) (p .1 .1)),
+    )
 
 slice-aggregate-put-segment : tie.Need-slice-aggregate-put-segment
 slice-aggregate-put-segment c = refl
 
 put-segment-requires : tie.Need-put-segment-requires
 put-segment-requires c κs =
-    let p = c .before .before .before .before .before .before .before .before .before .before .before .before .before .before .pre in
-    let r = list-room _ _ _ _ _ _ (λ k. omega (arith, c .before .before .before .before .before .before .before .before .before .before .before .before .shared-slice-known .given k)) (p .1 .0) (p .0 .0) (p .1 .1) in
-    let w = c .before .before .before .before .before .before .before .before .put-bytes in
-    let x = c .before .before .before .before .put-entries in
+    let pe = c .before .before .before .before in
+    let pb = pe .before .before .before .before in
+    let ssk = pb .before .before .before .before in
+    let p = ssk .before .before .pre in
+    let r = list-room _ _ _ _ _ _ (λ k. omega (arith, ssk .shared-slice-known .given k)) (p .1 .0) (p .0 .0) (p .1 .1) in
+    let w = pb .put-bytes in
+    let x = pe .put-entries in
     (r .0, (omega (arith, w .ensures .ends, w .kept .0, r .1, x .ensures .1, x .kept .0, p .0 .1), omega arith))
 
 slice-aggregate-put-number : tie.Need-slice-aggregate-put-number
@@ -39,11 +46,15 @@ slice-aggregate-put-number-2 c = refl
 
 put-number-requires : tie.Need-put-number-requires
 put-number-requires c κs =
-    let p = c .before .before .before .before .before .before .before .before .before .before .before .before .before .before .before .before .before .before .before .before .pre in
-    let r = list-room _ _ _ _ _ _ (λ k. omega (arith, c .before .before .before .before .before .before .before .before .before .before .before .before .before .before .before .before .before .before .shared-slice-known .given k)) (p .1 .0) (p .0 .0) (p .1 .1) in
-    let w = c .before .before .before .before .before .before .before .before .before .before .before .before .before .before .put-bytes in
-    let x = c .before .before .before .before .before .before .before .before .before .before .put-entries in
-    let y = c .before .before .before .before .before .put-segment in
+    let ps = c .before .before .before .before .before in
+    let pe = ps .before .before .before .before .before in
+    let pb = pe .before .before .before .before in
+    let ssk = pb .before .before .before .before in
+    let p = ssk .before .before .pre in
+    let r = list-room _ _ _ _ _ _ (λ k. omega (arith, ssk .shared-slice-known .given k)) (p .1 .0) (p .0 .0) (p .1 .1) in
+    let w = pb .put-bytes in
+    let x = pe .put-entries in
+    let y = ps .put-segment in
     omega (arith, w .ensures .ends, w .kept .0, r .1, x .ensures .1, x .kept .0, y .ensures .1, y .kept .0, p .0 .1)
 
 slice-aggregate-put-number-3 : tie.Need-slice-aggregate-put-number-3
@@ -54,37 +65,44 @@ slice-aggregate-put-number-4 c = refl
 
 put-number-requires-2 : tie.Need-put-number-requires-2
 put-number-requires-2 c κs =
-    let p = c .before .before .before .before .before .before .before .before .before .before .before .before .before .before .before .before .before .before .before .before .before .before .before .before .before .before .pre in
-    let r = list-room _ _ _ _ _ _ (λ k. omega (arith, c .before .before .before .before .before .before .before .before .before .before .before .before .before .before .before .before .before .before .before .before .before .before .before .before .shared-slice-known .given k)) (p .1 .0) (p .0 .0) (p .1 .1) in
-    let w = c .before .before .before .before .before .before .before .before .before .before .before .before .before .before .before .before .before .before .before .before .put-bytes in
-    let x = c .before .before .before .before .before .before .before .before .before .before .before .before .before .before .before .before .put-entries in
-    let y = c .before .before .before .before .before .before .before .before .before .before .before .put-segment in
-    let z = c .before .before .before .before .before .put-number in
+    let pn = c .before .before .before .before .before in
+    let ps = pn .before .before .before .before .before .before in
+    let pe = ps .before .before .before .before .before in
+    let pb = pe .before .before .before .before in
+    let ssk = pb .before .before .before .before in
+    let p = ssk .before .before .pre in
+    let r = list-room _ _ _ _ _ _ (λ k. omega (arith, ssk .shared-slice-known .given k)) (p .1 .0) (p .0 .0) (p .1 .1) in
+    let w = pb .put-bytes in
+    let x = pe .put-entries in
+    let y = ps .put-segment in
+    let z = pn .put-number in
     omega (arith, w .ensures .ends, w .kept .0, r .1, x .ensures .1, x .kept .0, y .ensures .1, y .kept .0, z .ensures .1, z .kept .0, p .0 .1)
 
 same-length : tie.Need-same-length
-same-length c = c .before .before .put-number2 .kept .0 ∙ c .before .before .before .before .before .before .before .before .put-number .kept .0 ∙ c .before .before .before .before .before .before .before .before .before .before .before .before .before .before .put-segment .kept .0 ∙ c .before .before .before .before .before .before .before .before .before .before .before .before .before .before .before .before .before .before .before .put-entries .kept .0 ∙ c .before .before .before .before .before .before .before .before .before .before .before .before .before .before .before .before .before .before .before .before .before .before .before .put-bytes .kept .0
+same-length c =
+    let pn = c .before .before .before .before .before .before .before .before in
+    let ps = pn .before .before .before .before .before .before in
+    let pe = ps .before .before .before .before .before in
+    c .before .before .put-number2 .kept .0 ∙ pn .put-number .kept .0 ∙ ps .put-segment .kept .0
+    ∙ pe .put-entries .kept .0 ∙ pe .before .before .before .before .put-bytes .kept .0
 
 returns : tie.Need-returns
 unfolding ascii
 returns c =
-    let p = c .before .before .before .before .before .before .before .before .before .before .before .before .before .before .before .before .before .before .before .before .before .before .before .before .before .before .before .before .before .pre in
-    list-written _ _ _ _ _ _ (λ k. omega (arith, c .before .before .before .before .before .before .before .before .before .before .before .before .before .before .before .before .before .before .before .before .before .before .before .before .before .before .before .shared-slice-known .given k)) (p .1 .0) (p .0 .0) (p .1 .1) (c .before .before .before .before .before .before .before .before .before .before .before .before .before .before .before .before .before .before .before .before .before .before .before .put-bytes .ensures) (c .before .before .before .before .before .before .before .before .before .before .before .before .before .before .before .before .before .before .before .put-entries .ensures .0) (c .before .before .before .before .before .before .before .before .before .before .before .before .before .before .put-segment .ensures .0) (c .before .before .before .before .before .before .before .before .put-number .ensures .0) (c .before .before .put-number2 .ensures .0)
+    let pn = c .before .before .before .before .before .before .before .before in
+    let ps = pn .before .before .before .before .before .before in
+    let pe = ps .before .before .before .before .before in
+    let pb = pe .before .before .before .before in
+    let ssk = pb .before .before .before .before in
+    let p = ssk .before .before .pre in
+    list-written _ _ _ _ _ _ (λ k. omega (arith, ssk .shared-slice-known .given k)) (p .1 .0) (p .0 .0) (p .1 .1)
+    (pb .put-bytes .ensures) (pe .put-entries .ensures .0) (ps .put-segment .ensures .0)
+    (pn .put-number .ensures .0) (c .before .before .put-number2 .ensures .0)
 
 pub put-list-spec : {M : Type 1} → statement M
 put-list-spec =
     tie.close
     (tie.spec
-    slice-aggregate-put-bytes
-    put-bytes-requires
-    put-entries-requires
-    slice-aggregate-put-segment
-    put-segment-requires
-    slice-aggregate-put-number
-    slice-aggregate-put-number-2
-    put-number-requires
-    slice-aggregate-put-number-3
-    slice-aggregate-put-number-4
-    put-number-requires-2
-    same-length
-    returns)
+    slice-aggregate-put-bytes put-bytes-requires put-entries-requires slice-aggregate-put-segment
+    put-segment-requires slice-aggregate-put-number slice-aggregate-put-number-2 put-number-requires
+    slice-aggregate-put-number-3 slice-aggregate-put-number-4 put-number-requires-2 same-length returns)

@@ -1,5 +1,6 @@
 -- `locate_payload::find` meets its contract, by where the search through the directory stands.
 -- Assumes nothing.
+use Rattle.opening.specs.Indexed.{EntryAt}
 use Prim.Native.Nat.{_-_}
 use mathlib.Core.Path.{sym, _∙_}
 use native.Mathlib.Omega.{arith}
@@ -16,128 +17,147 @@ Inv-loop file offsets manifest count id i₀ i = FindAt file id count i
 abbrev μ-loop : tie.MeasureT-loop
 μ-loop file offsets manifest count id i₀ i = count - i
 
+-- The entry that is looked at.
+module _ (b : tie.In-loop Inv-loop μ-loop) where
+  abbrev s : tie.Start Inv-loop μ-loop
+  s = b .before .before .before .before
+
+  entry : EntryAt (s .args .file .now) (s .args .offsets .now) (s .pre .1 .1 .found) (s .args .manifest) (b .before .loop .i)
+  entry =
+      entry-at _ _ _ _ (λ k. omega (arith, b .before .before .before .shared-slice-known .given k)) (s .pre .1 .0)
+      (s .pre .0) (s .pre .1 .1) (b .before .loop .i) (omega arith)
+
 loop-holds : tie.Need-loop-holds Inv-loop μ-loop
 loop-holds c = find-first _ _ _
 
 mul-p : tie.Need-mul-p Inv-loop μ-loop
 mul-p c =
-    let m = c .before .before .before .before .pre .1 .1 in
-    let a = entry-at _ _ _ _ (λ k. omega (arith, c .before .before .before .shared-slice-known .given k)) (c .before .before .before .before .pre .1 .0) (c .before .before .before .before .pre .0) m (c .before .loop .i) (omega arith) in
+    let a = entry c in
     omega (arith, a .stored, a .few)
 
 shared-slice-read-p : tie.Need-shared-slice-read-p Inv-loop μ-loop
 shared-slice-read-p c =
-    let m = c .before .before .before .before .before .pre .1 .1 in
-    let a = entry-at _ _ _ _ (λ k. omega (arith, c .before .before .before .before .shared-slice-known .given k)) (c .before .before .before .before .before .pre .1 .0) (c .before .before .before .before .before .pre .0) m (c .before .before .loop .i) (omega arith) in
+    let a = entry (c .before) in
     omega (arith, a .stored, a .few)
 
 add-u64-at : tie.Need-add-u64-at Inv-loop μ-loop
 add-u64-at c =
     let m = c .before .before .before .before .before .pre .1 .1 in
-    let a = entry-at _ _ _ _ (λ k. omega (arith, c .before .before .before .before .shared-slice-known .given k)) (c .before .before .before .before .before .pre .1 .0) (c .before .before .before .before .before .pre .0) m (c .before .before .loop .i) (omega arith) in
+    let a = entry (c .before) in
     omega (arith, a .numbered .room, m .within)
 
 u64-at-requires : tie.Need-u64-at-requires Inv-loop μ-loop
 u64-at-requires c κs =
     let m = c .before .before .before .before .before .pre .1 .1 in
-    let a = entry-at _ _ _ _ (λ k. omega (arith, c .before .before .before .before .shared-slice-known .given k)) (c .before .before .before .before .before .pre .1 .0) (c .before .before .before .before .before .pre .0) m (c .before .before .loop .i) (omega arith) in
+    let a = entry (c .before) in
     omega (arith, a .numbered .room, m .within)
 
 add-i : tie.Need-add-i Inv-loop μ-loop
 add-i c =
-    let m = c .before .before .before .before .before .before .before .pre .1 .1 in
-    let a = entry-at _ _ _ _ (λ k. omega (arith, c .before .before .before .before .before .before .shared-slice-known .given k)) (c .before .before .before .before .before .before .before .pre .1 .0) (c .before .before .before .before .before .before .before .pre .0) m (c .before .before .before .before .loop .i) (omega arith) in
+    let a = entry (c .before .before .before) in
     omega (arith, a .few)
-
-loop-less : tie.Need-loop-less Inv-loop μ-loop
-loop-less c = search needs
 
 loop-again : tie.Need-loop-again Inv-loop μ-loop
 loop-again c =
-    let m = c .before .before .before .before .before .before .before .pre .1 .1 in
-    let a = entry-at _ _ _ _ (λ k. omega (arith, c .before .before .before .before .before .before .shared-slice-known .given k)) (c .before .before .before .before .before .before .before .pre .1 .0) (c .before .before .before .before .before .before .before .pre .0) m (c .before .before .before .before .loop .i) (omega arith) in
-    find-other _ _ _ _ m _ _ (c .before .before .before .before .loop .inv) (omega arith) a _ (c .before .u64-at .ensures) (c .if1 .taken)
+    let b = c .before .before .before in
+    let m = b .before .before .before .before .pre .1 .1 in
+    let a = entry (b) in
+    find-other _ _ _ _ m _ _ (b .before .loop .inv) (omega arith) a _ (c .before .u64-at .ensures) (c .if1 .taken)
 
 add-if2 : tie.Need-add-if2 Inv-loop μ-loop
 add-if2 c =
-    let m = c .before .before .before .before .before .before .before .pre .1 .1 in
-    let a = entry-at _ _ _ _ (λ k. omega (arith, c .before .before .before .before .before .before .shared-slice-known .given k)) (c .before .before .before .before .before .before .before .pre .1 .0) (c .before .before .before .before .before .before .before .pre .0) m (c .before .before .before .before .loop .i) (omega arith) in
+    let b = c .before .before .before in
+    let m = b .before .before .before .before .pre .1 .1 in
+    let a = entry (b) in
     omega (arith, a .state-room, m .within, a .few)
 
 mul-if2 : tie.Need-mul-if2 Inv-loop μ-loop
 mul-if2 c =
-    let m = c .before .before .before .before .before .before .before .pre .1 .1 in
-    let a = entry-at _ _ _ _ (λ k. omega (arith, c .before .before .before .before .before .before .shared-slice-known .given k)) (c .before .before .before .before .before .before .before .pre .1 .0) (c .before .before .before .before .before .before .before .pre .0) m (c .before .before .before .before .loop .i) (omega arith) in
+    let b = c .before .before .before in
+    let m = b .before .before .before .before .pre .1 .1 in
+    let a = entry (b) in
     omega (arith, a .state-room, m .within, a .few)
 
 add-if2-2 : tie.Need-add-if2-2 Inv-loop μ-loop
 add-if2-2 c =
-    let m = c .before .before .before .before .before .before .before .pre .1 .1 in
-    let a = entry-at _ _ _ _ (λ k. omega (arith, c .before .before .before .before .before .before .shared-slice-known .given k)) (c .before .before .before .before .before .before .before .pre .1 .0) (c .before .before .before .before .before .before .before .pre .0) m (c .before .before .before .before .loop .i) (omega arith) in
+    let b = c .before .before .before in
+    let m = b .before .before .before .before .pre .1 .1 in
+    let a = entry (b) in
     omega (arith, a .state-room, m .within, a .few)
 
 add-if2-3 : tie.Need-add-if2-3 Inv-loop μ-loop
 add-if2-3 c =
-    let m = c .before .before .before .before .before .before .before .pre .1 .1 in
-    let a = entry-at _ _ _ _ (λ k. omega (arith, c .before .before .before .before .before .before .shared-slice-known .given k)) (c .before .before .before .before .before .before .before .pre .1 .0) (c .before .before .before .before .before .before .before .pre .0) m (c .before .before .before .before .loop .i) (omega arith) in
+    let b = c .before .before .before in
+    let m = b .before .before .before .before .pre .1 .1 in
+    let a = entry (b) in
     omega (arith, a .state-room, m .within, a .few)
 
 shared-slice-read-if2 : tie.Need-shared-slice-read-if2 Inv-loop μ-loop
 shared-slice-read-if2 c =
-    let m = c .before .before .before .before .before .before .before .before .pre .1 .1 in
-    let a = entry-at _ _ _ _ (λ k. omega (arith, c .before .before .before .before .before .before .before .shared-slice-known .given k)) (c .before .before .before .before .before .before .before .before .pre .1 .0) (c .before .before .before .before .before .before .before .before .pre .0) m (c .before .before .before .before .before .loop .i) (omega arith) in
+    let b = c .before .before .before .before in
+    let m = b .before .before .before .before .pre .1 .1 in
+    let a = entry (b) in
     omega (arith, a .state-room, m .within, a .few)
 
 add-i-2 : tie.Need-add-i-2 Inv-loop μ-loop
 add-i-2 c =
-    let m = c .before .before .before .before .before .before .before .before .before .pre .1 .1 in
-    let a = entry-at _ _ _ _ (λ k. omega (arith, c .before .before .before .before .before .before .before .before .shared-slice-known .given k)) (c .before .before .before .before .before .before .before .before .before .pre .1 .0) (c .before .before .before .before .before .before .before .before .before .pre .0) m (c .before .before .before .before .before .before .loop .i) (omega arith) in
+    let a = entry (c .before .before .before .before .before) in
     omega (arith, a .few)
-
-loop-less-2 : tie.Need-loop-less-2 Inv-loop μ-loop
-loop-less-2 c = search needs
 
 loop-again-2 : tie.Need-loop-again-2 Inv-loop μ-loop
 loop-again-2 c =
-    let m = c .before .before .before .before .before .before .before .before .before .pre .1 .1 in
-    let a = entry-at _ _ _ _ (λ k. omega (arith, c .before .before .before .before .before .before .before .before .shared-slice-known .given k)) (c .before .before .before .before .before .before .before .before .before .pre .1 .0) (c .before .before .before .before .before .before .before .before .before .pre .0) m (c .before .before .before .before .before .before .loop .i) (omega arith) in
-    find-retired _ _ _ _ m _ _ (c .before .before .before .before .before .before .loop .inv) (omega arith) a (c .if2 .taken)
+    let b = c .before .before .before .before .before in
+    let m = b .before .before .before .before .pre .1 .1 in
+    let a = entry (b) in
+    find-retired _ _ _ _ m _ _ (b .before .loop .inv) (omega arith) a (c .if2 .taken)
 
 add-u64-at-2 : tie.Need-add-u64-at-2 Inv-loop μ-loop
 add-u64-at-2 c =
-    let m = c .before .before .before .before .before .before .before .before .before .pre .1 .1 in
-    let a = entry-at _ _ _ _ (λ k. omega (arith, c .before .before .before .before .before .before .before .before .shared-slice-known .given k)) (c .before .before .before .before .before .before .before .before .before .pre .1 .0) (c .before .before .before .before .before .before .before .before .before .pre .0) m (c .before .before .before .before .before .before .loop .i) (omega arith) in
+    let b = c .before .before .before .before .before in
+    let m = b .before .before .before .before .pre .1 .1 in
+    let a = entry (b) in
     omega (arith, a .numbered .room, m .within)
 
 u64-at-requires-2 : tie.Need-u64-at-requires-2 Inv-loop μ-loop
 u64-at-requires-2 c κs =
-    let m = c .before .before .before .before .before .before .before .before .before .pre .1 .1 in
-    let a = entry-at _ _ _ _ (λ k. omega (arith, c .before .before .before .before .before .before .before .before .shared-slice-known .given k)) (c .before .before .before .before .before .before .before .before .before .pre .1 .0) (c .before .before .before .before .before .before .before .before .before .pre .0) m (c .before .before .before .before .before .before .loop .i) (omega arith) in
+    let b = c .before .before .before .before .before in
+    let m = b .before .before .before .before .pre .1 .1 in
+    let a = entry (b) in
     omega (arith, a .numbered .room, m .within)
 
 is-whole-requires : tie.Need-is-whole-requires Inv-loop μ-loop
 is-whole-requires c κs =
-    let m = c .before .before .before .before .before .before .before .before .before .before .pre .1 .1 in
-    let a = entry-at _ _ _ _ (λ k. omega (arith, c .before .before .before .before .before .before .before .before .before .shared-slice-known .given k)) (c .before .before .before .before .before .before .before .before .before .before .pre .1 .0) (c .before .before .before .before .before .before .before .before .before .before .pre .0) m (c .before .before .before .before .before .before .before .loop .i) (omega arith) in
+    let a = entry (c .before .before .before .before .before .before) in
     omega (arith, a .numbered .room, a .numbered .length-is, c .u64-at2 .ensures)
 
 returns : tie.Need-returns Inv-loop μ-loop
 returns c =
-    let m = c .before .before .before .before .before .before .before .before .before .before .before .before .pre .1 .1 in
-    let a = entry-at _ _ _ _ (λ k. omega (arith, c .before .before .before .before .before .before .before .before .before .before .before .shared-slice-known .given k)) (c .before .before .before .before .before .before .before .before .before .before .before .before .pre .1 .0) (c .before .before .before .before .before .before .before .before .before .before .before .before .pre .0) m (c .before .before .before .before .before .before .before .before .before .loop .i) (omega arith) in
-    find-torn _ _ _ _ m _ _ (c .before .before .before .before .before .before .before .before .before .loop .inv) (omega arith) a _ (c .before .before .before .before .before .before .u64-at .ensures) (c .before .before .before .before .before .if1 .left) (c .before .before .before .if2 .left) _ (c .before .before .u64-at2 .ensures) (sym (c .before .is-whole .ensures) ∙ not-true _ (c .if3 .taken))
+    let ua2 = c .before .before in
+    let e1 = ua2 .before .before .before in
+    let b = e1 .before .before .before in
+    let m = b .before .before .before .before .pre .1 .1 in
+    let a = entry (b) in
+    find-torn _ _ _ _ m _ _ (b .before .loop .inv) (omega arith) a _ (e1 .before .u64-at .ensures) (e1 .if1 .left)
+    (ua2 .before .if2 .left) _ (ua2 .u64-at2 .ensures)
+    (sym (c .before .is-whole .ensures) ∙ not-true _ (c .if3 .taken))
 
 add-t10 : tie.Need-add-t10 Inv-loop μ-loop
 add-t10 c =
-    let m = c .before .before .before .before .before .before .before .before .before .before .before .before .pre .1 .1 in
-    let a = entry-at _ _ _ _ (λ k. omega (arith, c .before .before .before .before .before .before .before .before .before .before .before .shared-slice-known .given k)) (c .before .before .before .before .before .before .before .before .before .before .before .before .pre .1 .0) (c .before .before .before .before .before .before .before .before .before .before .before .before .pre .0) m (c .before .before .before .before .before .before .before .before .before .loop .i) (omega arith) in
+    let b = c .before .before .before .before .before .before .before .before in
+    let m = b .before .before .before .before .pre .1 .1 in
+    let a = entry (b) in
     omega (arith, a .numbered .room, m .within)
 
 returns-2 : tie.Need-returns-2 Inv-loop μ-loop
 returns-2 c =
-    let m = c .before .before .before .before .before .before .before .before .before .before .before .before .pre .1 .1 in
-    let a = entry-at _ _ _ _ (λ k. omega (arith, c .before .before .before .before .before .before .before .before .before .before .before .shared-slice-known .given k)) (c .before .before .before .before .before .before .before .before .before .before .before .before .pre .1 .0) (c .before .before .before .before .before .before .before .before .before .before .before .before .pre .0) m (c .before .before .before .before .before .before .before .before .before .loop .i) (omega arith) in
-    find-whole _ _ _ _ m _ _ (c .before .before .before .before .before .before .before .before .before .loop .inv) (omega arith) a _ (c .before .before .before .before .before .before .u64-at .ensures) (c .before .before .before .before .before .if1 .left) (c .before .before .before .if2 .left) _ (c .before .before .u64-at2 .ensures) (sym (c .before .is-whole .ensures) ∙ not-false _ (c .if3 .left))
+    let ua2 = c .before .before in
+    let e1 = ua2 .before .before .before in
+    let b = e1 .before .before .before in
+    let m = b .before .before .before .before .pre .1 .1 in
+    let a = entry (b) in
+    find-whole _ _ _ _ m _ _ (b .before .loop .inv) (omega arith) a _ (e1 .before .u64-at .ensures) (e1 .if1 .left)
+    (ua2 .before .if2 .left) _ (ua2 .u64-at2 .ensures)
+    (sym (c .before .is-whole .ensures) ∙ not-false _ (c .if3 .left))
 
 returns-3 : tie.Need-returns-3 Inv-loop μ-loop
 returns-3 c = find-last _ _ _ _ (c .before .before .before .before .pre .1 .1) _ (c .before .loop .inv) (omega arith)
@@ -146,28 +166,6 @@ pub find-spec : {M : Type 1} → statement M
 find-spec =
     tie.close
     (tie.spec
-    Inv-loop
-    μ-loop
-    loop-holds
-    mul-p
-    shared-slice-read-p
-    add-u64-at
-    u64-at-requires
-    add-i
-    loop-less
-    loop-again
-    add-if2
-    mul-if2
-    add-if2-2
-    add-if2-3
-    shared-slice-read-if2
-    add-i-2
-    loop-less-2
-    loop-again-2
-    add-u64-at-2
-    u64-at-requires-2
-    is-whole-requires
-    returns
-    add-t10
-    returns-2
-    returns-3)
+    Inv-loop μ-loop loop-holds mul-p shared-slice-read-p add-u64-at u64-at-requires add-i (λ c. search needs)
+    loop-again add-if2 mul-if2 add-if2-2 add-if2-3 shared-slice-read-if2 add-i-2 (λ c. search needs)
+    loop-again-2 add-u64-at-2 u64-at-requires-2 is-whole-requires returns add-t10 returns-2 returns-3)

@@ -8,28 +8,11 @@ use borrow.Author.Needs.{needs}
 use Rattle.lookup.proofs.place.payload_place.Statement.{statement}
 use Rattle.lookup.proofs.place.payload_place.Tie as tie
 
-slice-aggregate-open-with : tie.Need-slice-aggregate-open-with
-slice-aggregate-open-with c = search needs
-
-open-with-requires : tie.Need-open-with-requires
-open-with-requires c κs = search needs
-
-enum-known-found : tie.Need-enum-known-found
-enum-known-found c = search needs
-
-enum-told : tie.Need-enum-told
-enum-told c = search needs
-
-enum-known-found-2 : tie.Need-enum-known-found-2
-enum-known-found-2 c = search needs
-
-slice-aggregate-find : tie.Need-slice-aggregate-find
-slice-aggregate-find c = search needs
-
 find-requires : tie.Need-find-requires
 find-requires c κs =
-    let m = opened-at _ _ _ _ _ _ (sym (c .before .before .before .before .before .open-with .ensures .0) ∙ c .before .before .found2 .given .1) in
-    (omega arith, (c .before .before .before .before .before .open-with .ensures .1 (m .within), m))
+    let ow = c .before .before .before .before .before in
+    let m = opened-at _ _ _ _ _ _ (sym (ow .open-with .ensures .0) ∙ c .before .before .found2 .given .1) in
+    (omega arith, (ow .open-with .ensures .1 (m .within), m))
 
 returns : tie.Need-returns
 returns c =
@@ -41,20 +24,9 @@ returns-2 c =
     let r = opened-none _ _ (sym (c .before .before .before .open-with .ensures .0) ∙ c .enum-told .given .1) in
     place-none _ _ (r .0) (r .1)
 
-returns-3 : tie.Need-returns-3
-returns-3 c = search needs
-
 pub payload-place-spec : {M : Type 1} → statement M
 payload-place-spec =
     tie.close
     (tie.spec
-    slice-aggregate-open-with
-    open-with-requires
-    enum-known-found
-    enum-told
-    enum-known-found-2
-    slice-aggregate-find
-    find-requires
-    returns
-    returns-2
-    returns-3)
+    (λ c. search needs) (λ c κs. search needs) (λ c. search needs) (λ c. search needs) (λ c. search needs)
+    (λ c. search needs) find-requires returns returns-2 (λ c. search needs))

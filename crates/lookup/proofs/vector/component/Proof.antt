@@ -5,15 +5,6 @@ use borrow.Author.Needs.{needs}
 use Rattle.lookup.proofs.vector.component.Statement.{statement}
 use Rattle.lookup.proofs.vector.component.Tie as tie
 
-value-place-requires : tie.Need-value-place-requires
-value-place-requires c κs = search needs
-
-enum-known-place : tie.Need-enum-known-place
-enum-known-place c = search needs
-
-enum-known-place-2 : tie.Need-enum-known-place-2
-enum-known-place-2 c = search needs
-
 component-at-requires : tie.Need-component-at-requires
 component-at-requires c κs = value-room-at _ _ _ (c .before .before .before .value-place .ensures) _ _ (c .before .place2 .given .1)
 
@@ -21,15 +12,11 @@ returns : tie.Need-returns
 returns c = component-not _ _ (lies-not _ _ _ (c .before .before .before .value-place .ensures) _ (c .before .place .given .1)) .0
 
 returns-2 : tie.Need-returns-2
-returns-2 c = component-is _ _ _ (c .before .before .before .before .value-place .ensures) _ _ (c .before .before .place2 .given .1) _ (c .component-at .ensures)
+returns-2 c = component-is _ _ _ (c .before .before .before .before .value-place .ensures) _ _
+    (c .before .before .place2 .given .1) _ (c .component-at .ensures)
 
 pub component-spec : {M : Type 1} → statement M
 component-spec =
     tie.close
     (tie.spec
-    value-place-requires
-    enum-known-place
-    enum-known-place-2
-    component-at-requires
-    returns
-    returns-2)
+    (λ c κs. search needs) (λ c. search needs) (λ c. search needs) component-at-requires returns returns-2)

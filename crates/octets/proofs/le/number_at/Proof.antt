@@ -18,9 +18,6 @@ abbrev μ-loop : tie.MeasureT-loop
 loop-holds : tie.Need-loop-holds Inv-loop μ-loop
 loop-holds c = reads-first _ _ _
 
-sub-i : tie.Need-sub-i Inv-loop μ-loop
-sub-i c = search needs
-
 mul-r : tie.Need-mul-r Inv-loop μ-loop
 mul-r c =
     let l = c .before .loop in
@@ -39,10 +36,10 @@ add-r-2 : tie.Need-add-r-2 Inv-loop μ-loop
 add-r-2 c =
     let l = c .before .before .loop in
     let at = c .before .before .before .args .at + (l .i - 1) in
-    record { fits = reads-fits _ _ _ _ _ _ (l .inv) (c .before .before .before .pre .1) (omega arith) (omega (arith, c .shared-slice-known .given at)) }
-
-loop-less : tie.Need-loop-less Inv-loop μ-loop
-loop-less c = search needs
+    record {
+      fits = reads-fits _ _ _ _ _ _ (l .inv) (c .before .before .before .pre .1) (omega arith)
+          (omega (arith, c .shared-slice-known .given at));
+    }
 
 loop-again : tie.Need-loop-again Inv-loop μ-loop
 loop-again c =
@@ -59,15 +56,5 @@ pub number-at-spec : {M : Type 1} → statement M
 number-at-spec =
     tie.close
     (tie.spec
-    Inv-loop
-    μ-loop
-    loop-holds
-    sub-i
-    mul-r
-    add-r
-    shared-slice-read-r
-    cast-r
-    add-r-2
-    loop-less
-    loop-again
-    returns)
+    Inv-loop μ-loop loop-holds (λ c. search needs) mul-r add-r shared-slice-read-r cast-r add-r-2
+    (λ c. search needs) loop-again returns)

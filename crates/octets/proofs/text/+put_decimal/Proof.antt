@@ -63,7 +63,9 @@ put-decimal-put-decimal-requires : (t : ℕ) → put-decimal-lts.Need-put-decima
   put-decimal-below t,
   put-decimal.Post,
 ) (put-decimal-at t) put-decimal.Post
-put-decimal-put-decimal-requires t c κs = let h = digits-room _ _ _ (omega arith) (c .before .before .before .pre .1) in (omega (arith, h .1, c .before .before .before .pre .0), omega (arith, h .0))
+put-decimal-put-decimal-requires t c κs = let h =
+    digits-room _ _ _ (omega arith) (c .before .before .before .pre .1) in
+    (omega (arith, h .1, c .before .before .before .pre .0), omega (arith, h .0))
 
 put-decimal-cast-buf-2 : (t : ℕ) → put-decimal-lts.Need-cast-buf-2 (
   put-decimal-below t,
@@ -81,13 +83,17 @@ put-decimal-slice-write-buf-2 : (t : ℕ) → put-decimal-lts.Need-slice-write-b
   put-decimal-below t,
   put-decimal.Post,
 ) (put-decimal-at t) put-decimal.Post
-put-decimal-slice-write-buf-2 t c = let h = digits-room _ _ _ (omega arith) (c .before .before .before .before .before .before .pre .1) in omega (arith, h .0, c .before .before .put-decimal .ensures .ends, c .before .before .put-decimal .kept .0)
+put-decimal-slice-write-buf-2 t c = let h =
+    digits-room _ _ _ (omega arith) (c .before .before .before .before .before .before .pre .1) in
+    omega (arith, h .0, c .before .before .put-decimal .ensures .ends, c .before .before .put-decimal .kept .0)
 
 put-decimal-add-result-2 : (t : ℕ) → put-decimal-lts.Need-add-result-2 (
   put-decimal-below t,
   put-decimal.Post,
 ) (put-decimal-at t) put-decimal.Post
-put-decimal-add-result-2 t c = let h = digits-room _ _ _ (omega arith) (c .before .before .before .before .before .before .pre .1) in omega (arith, h .0, c .before .before .put-decimal .ensures .ends)
+put-decimal-add-result-2 t c = let h =
+    digits-room _ _ _ (omega arith) (c .before .before .before .before .before .before .pre .1) in
+    omega (arith, h .0, c .before .before .put-decimal .ensures .ends)
 
 put-decimal-same-length-2 : (t : ℕ) → put-decimal-lts.Need-same-length-2 (
   put-decimal-below t,
@@ -99,7 +105,9 @@ put-decimal-returns-2 : (t : ℕ) → put-decimal-lts.Need-returns-2 (
   put-decimal-below t,
   put-decimal.Post,
 ) (put-decimal-at t) put-decimal.Post
-put-decimal-returns-2 t c = digit-next _ _ _ _ _ (omega arith) (c .before .before .before .before .before .before .pre .1) (c .before .before .put-decimal .ensures)
+put-decimal-returns-2 t c =
+    digit-next _ _ _ _ _ (omega arith) (c .before .before .before .before .before .before .pre .1)
+    (c .before .before .put-decimal .ensures)
 
 pub +put-decimal-spec : {M : Type 1} → statement M
 +put-decimal-spec = close μ-put-decimal λ t. put-decimal-lts.spec (

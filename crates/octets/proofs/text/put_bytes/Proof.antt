@@ -27,10 +27,11 @@ same-length c = search needs
 
 returns : tie.Need-returns
 returns c =
+    let s = c .before .before .before .before .before .before in
     record {
-      room = c .before .before .before .before .before .before .pre;
+      room = s .pre;
       ends = refl;
-      holds = back _ _ _ _ (c .before .before .copy .ensures) (c .before .before .before .before .before .before .pre);
+      holds = back _ _ _ _ (c .before .before .copy .ensures) (s .pre);
     }
 
 pub put-bytes-spec : {M : Type 1} → statement M

@@ -12,15 +12,20 @@ put-bytes-requires c κs = omega arith
 
 put-decimal-requires : tie.Need-put-decimal-requires
 put-decimal-requires c κs =
-    let z = c .before .before .before .put-bytes in
-    let d = decimal-u64 (c .before .before .before .before .before .before .before .before .args .n) (omega (arith, c .before .before .before .before .before .before .before .before .fits .n)) in
+    let pb = c .before .before .before in
+    let s = pb .before .before .before .before .before in
+    let z = pb .put-bytes in
+    let d = decimal-u64 (s .args .n) (omega (arith, s .fits .n)) in
     omega (arith, z .ensures .ends, z .kept .0)
 
 put-bytes-requires-2 : tie.Need-put-bytes-requires-2
 put-bytes-requires-2 c κs =
-    let z = c .before .before .before .before .before .before .before .put-bytes in
-    let y = c .before .before .before .put-decimal in
-    let d = decimal-u64 (c .before .before .before .before .before .before .before .before .before .before .before .before .args .n) (omega (arith, c .before .before .before .before .before .before .before .before .before .before .before .before .fits .n)) in
+    let pd = c .before .before .before in
+    let pb = pd .before .before .before .before in
+    let s = pb .before .before .before .before .before in
+    let z = pb .put-bytes in
+    let y = pd .put-decimal in
+    let d = decimal-u64 (s .args .n) (omega (arith, s .fits .n)) in
     omega (arith, z .ensures .ends, z .kept .0, y .ensures .ends, y .kept .0)
 
 same-length : tie.Need-same-length
@@ -28,10 +33,13 @@ same-length c = search needs
 
 returns : tie.Need-returns
 returns c =
-    let z = c .before .before .before .before .before .before .before .before .before .before .put-bytes in
-    let y = c .before .before .before .before .before .before .put-decimal in
+    let pd = c .before .before .before .before .before .before in
+    let pb = pd .before .before .before .before in
+    let s = pb .before .before .before .before .before in
+    let z = pb .put-bytes in
+    let y = pd .put-decimal in
     let x = c .before .before .put-bytes2 in
-    let d = decimal-u64 (c .before .before .before .before .before .before .before .before .before .before .before .before .before .before .before .args .n) (omega (arith, c .before .before .before .before .before .before .before .before .before .before .before .before .before .before .before .fits .n)) in
+    let d = decimal-u64 (s .args .n) (omega (arith, s .fits .n)) in
     (then (z .ensures) (then (y .ensures) (x .ensures)), omega (arith, z .ensures .ends, y .ensures .ends, x .ensures .ends))
 
 pub put-number-spec : {M : Type 1} → statement M

@@ -9,64 +9,72 @@ use borrow.Author.Needs.{needs}
 use Rattle.opening.proofs.directory.entry.Statement.{statement}
 use Rattle.opening.proofs.directory.entry.Tie as tie
 
-slice-aggregate-open-with : tie.Need-slice-aggregate-open-with
-slice-aggregate-open-with c = search needs
-
-open-with-requires : tie.Need-open-with-requires
-open-with-requires c κs = search needs
-
-enum-known-found : tie.Need-enum-known-found
-enum-known-found c = search needs
-
-enum-told : tie.Need-enum-told
-enum-told c = search needs
-
-enum-known-found-2 : tie.Need-enum-known-found-2
-enum-known-found-2 c = search needs
-
 returns : tie.Need-returns
-returns c = entry-past _ _ _ (opened-at _ _ _ _ _ _ (sym (c .before .before .before .before .before .open-with .ensures .0) ∙ c .before .before .found2 .given .1)) _ (omega arith)
+returns c = entry-past _ _ _
+    (opened-at _ _ _ _ _ _ (sym (c .before .before .before .before .before .open-with .ensures .0)
+    ∙ c .before .before .found2 .given .1)) _ (omega arith)
 
 mul-read-entry : tie.Need-mul-read-entry
 mul-read-entry c =
-    let m = opened-at _ _ _ _ _ _ (sym (c .before .before .before .before .before .open-with .ensures .0) ∙ c .before .before .found2 .given .1) in
-    let a = entry-at _ _ _ _ (λ k. omega (arith, c .before .before .before .before .before .before .before .shared-slice-known .given k)) (c .before .before .before .before .before .open-with .ensures .1 (m .within)) (omega arith) m (c .before .before .before .before .before .before .before .before .args .index) (omega arith) in
+    let ow = c .before .before .before .before .before in
+    let m = opened-at _ _ _ _ _ _ (sym (ow .open-with .ensures .0) ∙ c .before .before .found2 .given .1) in
+    let a = entry-at _ _ _ _ (λ k. omega (arith, ow .before .before .shared-slice-known .given k))
+    (ow .open-with .ensures .1 (m .within)) (omega arith) m (ow .before .before .before .args .index)
+    (omega arith) in
     omega (arith, a .stored, a .few, a .state-room, m .within)
 
 array-read-read-entry : tie.Need-array-read-read-entry
 array-read-read-entry c =
-    let m = opened-at _ _ _ _ _ _ (sym (c .before .before .before .before .before .open-with .ensures .0) ∙ c .before .before .found2 .given .1) in
-    let a = entry-at _ _ _ _ (λ k. omega (arith, c .before .before .before .before .before .before .before .shared-slice-known .given k)) (c .before .before .before .before .before .open-with .ensures .1 (m .within)) (omega arith) m (c .before .before .before .before .before .before .before .before .args .index) (omega arith) in
+    let ow = c .before .before .before .before .before in
+    let m = opened-at _ _ _ _ _ _ (sym (ow .open-with .ensures .0) ∙ c .before .before .found2 .given .1) in
+    let a = entry-at _ _ _ _ (λ k. omega (arith, ow .before .before .shared-slice-known .given k))
+    (ow .open-with .ensures .1 (m .within)) (omega arith) m (ow .before .before .before .args .index)
+    (omega arith) in
     omega (arith, a .stored, a .few, a .state-room, m .within)
 
 add-read-entry : tie.Need-add-read-entry
 add-read-entry c =
-    let m = opened-at _ _ _ _ _ _ (sym (c .before .before .before .before .before .open-with .ensures .0) ∙ c .before .before .found2 .given .1) in
-    let a = entry-at _ _ _ _ (λ k. omega (arith, c .before .before .before .before .before .before .before .shared-slice-known .given k)) (c .before .before .before .before .before .open-with .ensures .1 (m .within)) (omega arith) m (c .before .before .before .before .before .before .before .before .args .index) (omega arith) in
+    let ow = c .before .before .before .before .before in
+    let m = opened-at _ _ _ _ _ _ (sym (ow .open-with .ensures .0) ∙ c .before .before .found2 .given .1) in
+    let a = entry-at _ _ _ _ (λ k. omega (arith, ow .before .before .shared-slice-known .given k))
+    (ow .open-with .ensures .1 (m .within)) (omega arith) m (ow .before .before .before .args .index)
+    (omega arith) in
     omega (arith, a .stored, a .few, a .state-room, m .within)
 
 mul-read-entry-2 : tie.Need-mul-read-entry-2
 mul-read-entry-2 c =
-    let m = opened-at _ _ _ _ _ _ (sym (c .before .before .before .before .before .open-with .ensures .0) ∙ c .before .before .found2 .given .1) in
-    let a = entry-at _ _ _ _ (λ k. omega (arith, c .before .before .before .before .before .before .before .shared-slice-known .given k)) (c .before .before .before .before .before .open-with .ensures .1 (m .within)) (omega arith) m (c .before .before .before .before .before .before .before .before .args .index) (omega arith) in
+    let ow = c .before .before .before .before .before in
+    let m = opened-at _ _ _ _ _ _ (sym (ow .open-with .ensures .0) ∙ c .before .before .found2 .given .1) in
+    let a = entry-at _ _ _ _ (λ k. omega (arith, ow .before .before .shared-slice-known .given k))
+    (ow .open-with .ensures .1 (m .within)) (omega arith) m (ow .before .before .before .args .index)
+    (omega arith) in
     omega (arith, a .stored, a .few, a .state-room, m .within)
 
 add-read-entry-2 : tie.Need-add-read-entry-2
 add-read-entry-2 c =
-    let m = opened-at _ _ _ _ _ _ (sym (c .before .before .before .before .before .open-with .ensures .0) ∙ c .before .before .found2 .given .1) in
-    let a = entry-at _ _ _ _ (λ k. omega (arith, c .before .before .before .before .before .before .before .shared-slice-known .given k)) (c .before .before .before .before .before .open-with .ensures .1 (m .within)) (omega arith) m (c .before .before .before .before .before .before .before .before .args .index) (omega arith) in
+    let ow = c .before .before .before .before .before in
+    let m = opened-at _ _ _ _ _ _ (sym (ow .open-with .ensures .0) ∙ c .before .before .found2 .given .1) in
+    let a = entry-at _ _ _ _ (λ k. omega (arith, ow .before .before .shared-slice-known .given k))
+    (ow .open-with .ensures .1 (m .within)) (omega arith) m (ow .before .before .before .args .index)
+    (omega arith) in
     omega (arith, a .stored, a .few, a .state-room, m .within)
 
 add-read-entry-3 : tie.Need-add-read-entry-3
 add-read-entry-3 c =
-    let m = opened-at _ _ _ _ _ _ (sym (c .before .before .before .before .before .open-with .ensures .0) ∙ c .before .before .found2 .given .1) in
-    let a = entry-at _ _ _ _ (λ k. omega (arith, c .before .before .before .before .before .before .before .shared-slice-known .given k)) (c .before .before .before .before .before .open-with .ensures .1 (m .within)) (omega arith) m (c .before .before .before .before .before .before .before .before .args .index) (omega arith) in
+    let ow = c .before .before .before .before .before in
+    let m = opened-at _ _ _ _ _ _ (sym (ow .open-with .ensures .0) ∙ c .before .before .found2 .given .1) in
+    let a = entry-at _ _ _ _ (λ k. omega (arith, ow .before .before .shared-slice-known .given k))
+    (ow .open-with .ensures .1 (m .within)) (omega arith) m (ow .before .before .before .args .index)
+    (omega arith) in
     omega (arith, a .stored, a .few, a .state-room, m .within)
 
 read-entry-requires : tie.Need-read-entry-requires
 read-entry-requires c κs =
-    let m = opened-at _ _ _ _ _ _ (sym (c .before .before .before .before .before .open-with .ensures .0) ∙ c .before .before .found2 .given .1) in
-    let a = entry-at _ _ _ _ (λ k. omega (arith, c .before .before .before .before .before .before .before .shared-slice-known .given k)) (c .before .before .before .before .before .open-with .ensures .1 (m .within)) (omega arith) m (c .before .before .before .before .before .before .before .before .args .index) (omega arith) in
+    let ow = c .before .before .before .before .before in
+    let m = opened-at _ _ _ _ _ _ (sym (ow .open-with .ensures .0) ∙ c .before .before .found2 .given .1) in
+    let a = entry-at _ _ _ _ (λ k. omega (arith, ow .before .before .shared-slice-known .given k))
+    (ow .open-with .ensures .1 (m .within)) (omega arith) m (ow .before .before .before .args .index)
+    (omega arith) in
     (omega (arith, a .numbered .room), a .state-room)
 
 returns-2 : tie.Need-returns-2
@@ -81,27 +89,18 @@ returns-3 c =
 
 returns-4 : tie.Need-returns-4
 returns-4 c =
-    let m = opened-at _ _ _ _ _ _ (sym (c .before .before .before .before .before .before .open-with .ensures .0) ∙ c .before .before .before .found2 .given .1) in
-    let a = entry-at _ _ _ _ (λ k. omega (arith, c .before .before .before .before .before .before .before .before .shared-slice-known .given k)) (c .before .before .before .before .before .before .open-with .ensures .1 (m .within)) (omega arith) m (c .before .before .before .before .before .before .before .before .before .args .index) (omega arith) in
+    let f2 = c .before .before .before in
+    let ow = f2 .before .before .before in
+    let m = opened-at _ _ _ _ _ _ (sym (ow .open-with .ensures .0) ∙ f2 .found2 .given .1) in
+    let a = entry-at _ _ _ _ (λ k. omega (arith, ow .before .before .shared-slice-known .given k))
+    (ow .open-with .ensures .1 (m .within)) (omega arith) m (ow .before .before .before .args .index)
+    (omega arith) in
     entry-is _ _ _ m _ _ (omega arith) a _ (c .read-entry .ensures)
 
 pub entry-spec : {M : Type 1} → statement M
 entry-spec =
     tie.close
     (tie.spec
-    slice-aggregate-open-with
-    open-with-requires
-    enum-known-found
-    enum-told
-    enum-known-found-2
-    returns
-    mul-read-entry
-    array-read-read-entry
-    add-read-entry
-    mul-read-entry-2
-    add-read-entry-2
-    add-read-entry-3
-    read-entry-requires
-    returns-2
-    returns-3
-    returns-4)
+    (λ c. search needs) (λ c κs. search needs) (λ c. search needs) (λ c. search needs) (λ c. search needs)
+    returns mul-read-entry array-read-read-entry add-read-entry mul-read-entry-2 add-read-entry-2
+    add-read-entry-3 read-entry-requires returns-2 returns-3 returns-4)

@@ -18,38 +18,17 @@ abbrev μ-loop : tie.MeasureT-loop
 loop-holds : tie.Need-loop-holds Inv-loop μ-loop
 loop-holds c = (collect-first _ _ _, refl)
 
-link-at-requires : tie.Need-link-at-requires Inv-loop μ-loop
-link-at-requires c κs = search needs
-
-enum-told : tie.Need-enum-told Inv-loop μ-loop
-enum-told c = search needs
-
-same-length : tie.Need-same-length Inv-loop μ-loop
-same-length c = search needs
-
 returns : tie.Need-returns Inv-loop μ-loop
-returns c = collect-stop _ _ _ _ _ _ (c .before .before .before .before .loop .inv .0) (sym (c .before .before .link-at .ensures) ∙ c .enum-told .given .1)
-
-enum-known-step : tie.Need-enum-known-step Inv-loop μ-loop
-enum-known-step c = search needs
-
-mul-offsets : tie.Need-mul-offsets Inv-loop μ-loop
-mul-offsets c = search needs
-
-slice-write-offsets : tie.Need-slice-write-offsets Inv-loop μ-loop
-slice-write-offsets c = search needs
-
-add-n : tie.Need-add-n Inv-loop μ-loop
-add-n c = search needs
-
-loop-less : tie.Need-loop-less Inv-loop μ-loop
-loop-less c = search needs
+returns c = collect-stop _ _ _ _ _ _ (c .before .before .before .before .loop .inv .0)
+    (sym (c .before .before .link-at .ensures) ∙ c .enum-told .given .1)
 
 loop-again : tie.Need-loop-again Inv-loop μ-loop
-loop-again c = (collect-next _ _ _ _ _ _ (c .before .before .before .before .before .loop .inv .0) _ _ _ _ _ (sym (c .before .before .before .link-at .ensures) ∙ c .before .step .given .1) (omega arith) (omega arith), search needs)
-
-same-length-2 : tie.Need-same-length-2 Inv-loop μ-loop
-same-length-2 c = search needs
+loop-again c =
+    let la = c .before .before .before in (
+      collect-next _ _ _ _ _ _ (la .before .before .loop .inv .0) _ _ _ _ _
+          (sym (la .link-at .ensures) ∙ c .before .step .given .1) (omega arith) (omega arith),
+      search needs,
+    )
 
 returns-2 : tie.Need-returns-2 Inv-loop μ-loop
 returns-2 c = collect-full _ _ _ _ _ _ (c .before .loop .inv .0) (omega arith)
@@ -58,18 +37,6 @@ pub collect-spec : {M : Type 1} → statement M
 collect-spec =
     tie.close
     (tie.spec
-    Inv-loop
-    μ-loop
-    loop-holds
-    link-at-requires
-    enum-told
-    same-length
-    returns
-    enum-known-step
-    mul-offsets
-    slice-write-offsets
-    add-n
-    loop-less
-    loop-again
-    same-length-2
-    returns-2)
+    Inv-loop μ-loop loop-holds (λ c κs. search needs) (λ c. search needs) (λ c. search needs) returns
+    (λ c. search needs) (λ c. search needs) (λ c. search needs) (λ c. search needs) (λ c. search needs)
+    loop-again (λ c. search needs) returns-2)

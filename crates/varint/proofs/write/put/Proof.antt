@@ -20,12 +20,6 @@ abbrev μ-loop : tie.MeasureT-loop
 loop-holds : tie.Need-loop-holds Inv-loop μ-loop
 loop-holds c = (stands-first _ (omega arith), (refl, sym (over-none _ _)))
 
-add-out : tie.Need-add-out Inv-loop μ-loop
-add-out c = search needs
-
-cast-out : tie.Need-cast-out Inv-loop μ-loop
-cast-out c = search needs
-
 add-out-2 : tie.Need-add-out-2 Inv-loop μ-loop
 add-out-2 c =
     let l = c .before .loop in
@@ -38,20 +32,11 @@ slice-write-out c =
     let w = stands-byte _ _ _ (l .inv .0) (c .loop-test .taken) .within in
     omega arith
 
-add-d : tie.Need-add-d Inv-loop μ-loop
-add-d c = search needs
-
-loop-less : tie.Need-loop-less Inv-loop μ-loop
-loop-less c = search needs
-
 loop-again : tie.Need-loop-again Inv-loop μ-loop
 loop-again c =
     let l = c .before .loop in
     let g = stands-byte _ _ _ (l .inv .0) (c .loop-test .taken) in
     (stands-more _ _ _ (l .inv .0) (c .loop-test .taken), (search needs, laid _ _ _ _ _ _ _ g (l .inv .1 .1) (c .before .before .pre)))
-
-cast-out-2 : tie.Need-cast-out-2 Inv-loop μ-loop
-cast-out-2 c = search needs
 
 add-out-3 : tie.Need-add-out-3 Inv-loop μ-loop
 add-out-3 c =
@@ -65,15 +50,6 @@ slice-write-out-2 c =
     let w = stands-last _ _ _ (l .inv .0) (c .loop-test .left) .within in
     omega arith
 
-add-result : tie.Need-add-result Inv-loop μ-loop
-add-result c = search needs
-
-add-result-2 : tie.Need-add-result-2 Inv-loop μ-loop
-add-result-2 c = search needs
-
-same-length : tie.Need-same-length Inv-loop μ-loop
-same-length c = search needs
-
 returns : tie.Need-returns Inv-loop μ-loop
 returns c =
     let l = c .before .loop in
@@ -84,20 +60,6 @@ pub put-spec : {M : Type 1} → statement M
 put-spec =
     tie.close
     (tie.spec
-    Inv-loop
-    μ-loop
-    loop-holds
-    add-out
-    cast-out
-    add-out-2
-    slice-write-out
-    add-d
-    loop-less
-    loop-again
-    cast-out-2
-    add-out-3
-    slice-write-out-2
-    add-result
-    add-result-2
-    same-length
-    returns)
+    Inv-loop μ-loop loop-holds (λ c. search needs) (λ c. search needs) add-out-2 slice-write-out
+    (λ c. search needs) (λ c. search needs) loop-again (λ c. search needs) add-out-3 slice-write-out-2
+    (λ c. search needs) (λ c. search needs) (λ c. search needs) returns)

@@ -9,56 +9,40 @@ use borrow.Author.Needs.{needs}
 use Rattle.vec_read.proofs.lines.check_line.Statement.{statement}
 use Rattle.vec_read.proofs.lines.check_line.Tie as tie
 
-add-u32-at : tie.Need-add-u32-at
-add-u32-at c = search needs
-
-u32-at-requires : tie.Need-u32-at-requires
-u32-at-requires c κs = search needs
-
-cast-count : tie.Need-cast-count
-cast-count c = search needs
-
 returns : tie.Need-returns
-returns c = let l = line-is (c .before .before .before .args .s .now) (c .before .before .before .args .at) in line-count-none _ (omega (arith, l .count))
+returns c =
+    let s = c .before .before .before in
+    let l = line-is (s .args .s .now) (s .args .at) in line-count-none _ (omega (arith, l .count))
 
 returns-2 : tie.Need-returns-2
-returns-2 c = let l = line-is (c .before .before .before .before .args .s .now) (c .before .before .before .before .args .at) in line-count-over _ (omega (arith, l .count))
-
-add-u16-at : tie.Need-add-u16-at
-add-u16-at c = search needs
-
-u16-at-requires : tie.Need-u16-at-requires
-u16-at-requires c κs = search needs
-
-cast-dim : tie.Need-cast-dim
-cast-dim c = search needs
+returns-2 c =
+    let s = c .before .before .before .before in
+    let l = line-is (s .args .s .now) (s .args .at) in line-count-over _ (omega (arith, l .count))
 
 returns-3 : tie.Need-returns-3
-returns-3 c = let l = line-is (c .before .before .before .before .before .before .args .s .now) (c .before .before .before .before .before .before .args .at) in line-dim-none _ (omega (arith, l .count)) (omega (arith, l .count)) (omega (arith, l .dim))
+returns-3 c =
+    let s = c .before .before .before .before .before .before in
+    let l = line-is (s .args .s .now) (s .args .at) in line-dim-none _ (omega (arith, l .count)) (omega (arith, l .count)) (omega (arith, l .dim))
 
 returns-4 : tie.Need-returns-4
-returns-4 c = let l = line-is (c .before .before .before .before .before .before .before .args .s .now) (c .before .before .before .before .before .before .before .args .at) in line-dim-over _ (omega (arith, l .count)) (omega (arith, l .count)) (omega (arith, l .dim))
-
-add-width-of : tie.Need-add-width-of
-add-width-of c = search needs
-
-shared-slice-read-width-of : tie.Need-shared-slice-read-width-of
-shared-slice-read-width-of c = search needs
+returns-4 c =
+    let s = c .before .before .before .before .before .before .before in
+    let l = line-is (s .args .s .now) (s .args .at) in line-dim-over _ (omega (arith, l .count)) (omega (arith, l .count)) (omega (arith, l .dim))
 
 cast-width-of : tie.Need-cast-width-of
 cast-width-of c = omega (arith, c .shared-slice-known2 .given (c .before .before .before .before .before .before .before .before .args .at + 10))
 
-width-of-requires : tie.Need-width-of-requires
-width-of-requires c κs = search needs
-
 returns-5 : tie.Need-returns-5
 returns-5 c =
-    let l = line-is (c .before .before .before .before .before .before .before .before .before .before .args .s .now) (c .before .before .before .before .before .before .before .before .before .before .args .at) in
-    line-dtype _ (omega (arith, l .count)) (omega (arith, l .count)) (omega (arith, l .dim)) (omega (arith, l .dim)) (ap width (l .dtype) ∙ sym (c .before .width-of .ensures) ∙ c .if5 .taken)
+    let s = c .before .before .before .before .before .before .before .before .before .before in
+    let l = line-is (s .args .s .now) (s .args .at) in
+    line-dtype _ (omega (arith, l .count)) (omega (arith, l .count)) (omega (arith, l .dim))
+    (omega (arith, l .dim)) (ap width (l .dtype) ∙ sym (c .before .width-of .ensures) ∙ c .if5 .taken)
 
 returns-6 : tie.Need-returns-6
 returns-6 c =
-    let l = line-is (c .before .before .before .before .before .before .before .before .before .before .args .s .now) (c .before .before .before .before .before .before .before .before .before .before .args .at) in
+    let s = c .before .before .before .before .before .before .before .before .before .before in
+    let l = line-is (s .args .s .now) (s .args .at) in
     let w = ap width (l .dtype) ∙ sym (c .before .width-of .ensures) in
     line-good _ (omega (arith, l .count)) (omega (arith, l .count)) (omega (arith, l .dim)) (omega (arith, l .dim)) (omega (arith, w))
 
@@ -66,19 +50,6 @@ pub check-line-spec : {M : Type 1} → statement M
 check-line-spec =
     tie.close
     (tie.spec
-    add-u32-at
-    u32-at-requires
-    cast-count
-    returns
-    returns-2
-    add-u16-at
-    u16-at-requires
-    cast-dim
-    returns-3
-    returns-4
-    add-width-of
-    shared-slice-read-width-of
-    cast-width-of
-    width-of-requires
-    returns-5
-    returns-6)
+    (λ c. search needs) (λ c κs. search needs) (λ c. search needs) returns returns-2 (λ c. search needs)
+    (λ c κs. search needs) (λ c. search needs) returns-3 returns-4 (λ c. search needs) (λ c. search needs)
+    cast-width-of (λ c κs. search needs) returns-5 returns-6)

@@ -17,23 +17,8 @@ abbrev μ-loop : tie.MeasureT-loop
 loop-holds : tie.Need-loop-holds Inv-loop μ-loop
 loop-holds c = lines-first _ _
 
-mul-check-line : tie.Need-mul-check-line Inv-loop μ-loop
-mul-check-line c = search needs
-
-add-check-line : tie.Need-add-check-line Inv-loop μ-loop
-add-check-line c = search needs
-
-check-line-requires : tie.Need-check-line-requires Inv-loop μ-loop
-check-line-requires c κs = search needs
-
 returns : tie.Need-returns Inv-loop μ-loop
 returns c = lines-stop _ _ _ (c .before .before .before .loop .inv) (omega arith) _ (c .before .check-line .ensures) (c .if1 .taken)
-
-add-i : tie.Need-add-i Inv-loop μ-loop
-add-i c = search needs
-
-loop-less : tie.Need-loop-less Inv-loop μ-loop
-loop-less c = search needs
 
 loop-again : tie.Need-loop-again Inv-loop μ-loop
 loop-again c = lines-next _ _ _ (c .before .before .before .loop .inv) (omega arith) (sym (c .before .check-line .ensures) ∙ c .if1 .left)
@@ -45,14 +30,5 @@ pub check-lines-spec : {M : Type 1} → statement M
 check-lines-spec =
     tie.close
     (tie.spec
-    Inv-loop
-    μ-loop
-    loop-holds
-    mul-check-line
-    add-check-line
-    check-line-requires
-    returns
-    add-i
-    loop-less
-    loop-again
-    returns-2)
+    Inv-loop μ-loop loop-holds (λ c. search needs) (λ c. search needs) (λ c κs. search needs) returns
+    (λ c. search needs) (λ c. search needs) loop-again returns-2)

@@ -17,38 +17,25 @@ u32-at-requires : tie.Need-u32-at-requires
 unfolding width
 u32-at-requires c κs = rw (c .if1 .taken) at (c .before .before .pre .1)
 
-float-of-requires : tie.Need-float-of-requires
-float-of-requires c κs = search needs
-
 returns : tie.Need-returns
-returns c = ap Float (c .float-of .ensures) ∙ component-float (c .before .before .before .before .args .s .now) (c .before .before .before .before .args .at) _ _ (c .before .before .if1 .taken) (c .before .u32-at .ensures)
-
-shared-slice-read-signed-of : tie.Need-shared-slice-read-signed-of
-shared-slice-read-signed-of c = search needs
-
-signed-of-requires : tie.Need-signed-of-requires
-signed-of-requires c κs = search needs
+returns c =
+    let s = c .before .before .before .before in
+    ap Float (c .float-of .ensures) ∙ component-float (s .args .s .now) (s .args .at) _ _ (c .before .before .if1 .taken) (c .before .u32-at .ensures)
 
 returns-2 : tie.Need-returns-2
 returns-2 c =
+    let s = c .before .before .before .before .before in
     let e : toZ w8 (ofZ w8 (c .signed-of .result)) ≡ c .signed-of .result = search needs in
-    ap Signed (e ∙ c .signed-of .ensures) ∙ component-signed (c .before .before .before .before .before .args .s .now) (c .before .before .before .before .before .args .at) _ (c .before .before .if2 .taken)
-
-shared-slice-read-t11 : tie.Need-shared-slice-read-t11
-shared-slice-read-t11 c = search needs
+    ap Signed (e ∙ c .signed-of .ensures) ∙ component-signed (s .args .s .now) (s .args .at) _ (c .before .before .if2 .taken)
 
 returns-3 : tie.Need-returns-3
-returns-3 c = component-unsigned (c .before .before .before .before .args .s .now) (c .before .before .before .before .args .at) _ (c .before .before .if1 .left) (c .before .if2 .left) (c .before .before .before .before .pre .0)
+returns-3 c =
+    let s = c .before .before .before .before in
+    component-unsigned (s .args .s .now) (s .args .at) _ (c .before .before .if1 .left) (c .before .if2 .left) (s .pre .0)
 
 pub component-at-spec : {M : Type 1} → statement M
 component-at-spec =
     tie.close
     (tie.spec
-    u32-at-requires
-    float-of-requires
-    returns
-    shared-slice-read-signed-of
-    signed-of-requires
-    returns-2
-    shared-slice-read-t11
-    returns-3)
+    u32-at-requires (λ c κs. search needs) returns (λ c. search needs) (λ c κs. search needs) returns-2
+    (λ c. search needs) returns-3)

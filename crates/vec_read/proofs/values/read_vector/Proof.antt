@@ -19,22 +19,27 @@ abbrev μ-loop : tie.MeasureT-loop
 μ-loop s offset count dim dtype index buf₀ w n d₀ buf d = dim - d
 
 -- the bounds, of the width as the code has it
-bounds : (c : tie.After-width-of Inv-loop μ-loop) → Bounds (length (c .before .before .before .args .s .now)) (c .before .before .before .args .offset) (c .before .before .before .args .count) (c .before .before .before .args .dim) (c .width-of .result) (c .before .before .before .args .index)
+bounds : (c : tie.After-width-of Inv-loop μ-loop) → Bounds (length (c .before .before .before .args .s .now))
+    (c .before .before .before .args .offset) (c .before .before .before .args .count)
+    (c .before .before .before .args .dim) (c .width-of .result) (c .before .before .before .args .index)
 bounds c = rw (sym (c .width-of .ensures)) at (c .before .before .before .pre)
 
-room : (c : tie.In-loop Inv-loop μ-loop) → ValueRoom (length (c .before .before .before .before .before .before .args .s .now)) (c .before .before .before .before .before .before .args .offset) (c .before .before .before .before .before .before .args .count) (c .before .before .before .before .before .before .args .dim) (c .before .before .before .width-of .result) (c .before .before .before .before .before .before .args .index) (c .before .loop .d)
+room : (c : tie.In-loop Inv-loop μ-loop) → ValueRoom
+    (length (c .before .before .before .before .before .before .args .s .now))
+    (c .before .before .before .before .before .before .args .offset)
+    (c .before .before .before .before .before .before .args .count)
+    (c .before .before .before .before .before .before .args .dim) (c .before .before .before .width-of .result)
+    (c .before .before .before .before .before .before .args .index) (c .before .loop .d)
 room c = value-room _ _ _ _ _ _ _ (bounds (c .before .before .before)) (c .loop-test .taken)
-
-width-of-requires : tie.Need-width-of-requires Inv-loop μ-loop
-width-of-requires c κs = search needs
 
 mul-n : tie.Need-mul-n Inv-loop μ-loop
 mul-n c = omega (arith, all-room _ _ _ _ _ _ (bounds c))
 
 returns : tie.Need-returns Inv-loop μ-loop
 returns c =
-    let n = vector-length (c .before .before .before .before .args .s .now) (c .before .before .before .before .args .offset) (c .before .before .before .before .args .count) (c .before .before .before .before .args .dim) (c .before .before .before .before .args .dtype) (c .before .before .before .before .args .index) (c .before .before .before .before .pre) in
-    write-short _ _ 0 refl (omega (arith, n, ap (λ w. c .before .before .before .before .args .dim * w) (c .before .width-of .ensures)))
+    let s = c .before .before .before .before in
+    let n = vector-length (s .args .s .now) (s .args .offset) (s .args .count) (s .args .dim) (s .args .dtype) (s .args .index) (s .pre) in
+    write-short _ _ 0 refl (omega (arith, n, ap (λ w. s .args .dim * w) (c .before .width-of .ensures)))
 
 loop-holds : tie.Need-loop-holds Inv-loop μ-loop
 loop-holds c = vector-first _ _ _ _ _ _ (c .before .before .before .before .pre) _
@@ -43,7 +48,9 @@ mul-from : tie.Need-mul-from Inv-loop μ-loop
 mul-from c = omega (arith, room c .row)
 
 add-from : tie.Need-add-from Inv-loop μ-loop
-add-from c = omega (arith, room c .row, bounds (c .before .before .before) .most, bounds (c .before .before .before) .index-in)
+add-from c =
+    let wo = c .before .before .before in
+    omega (arith, room c .row, bounds (wo) .most, bounds (wo) .index-in)
 
 mul-from-2 : tie.Need-mul-from-2 Inv-loop μ-loop
 mul-from-2 c = omega (arith, room c .from)
@@ -63,9 +70,6 @@ sub-copy c = let long = c .before .loop .inv .long in omega (arith, room c .to)
 part-copy-start : tie.Need-part-copy-start Inv-loop μ-loop
 part-copy-start c = let long = c .before .loop .inv .long in omega (arith, room c .to)
 
-part-copy-end : tie.Need-part-copy-end Inv-loop μ-loop
-part-copy-end c = search needs
-
 sub-copy-2 : tie.Need-sub-copy-2 Inv-loop μ-loop
 sub-copy-2 c = omega (arith, room (c .before) .from)
 
@@ -77,61 +81,42 @@ part-copy-end-2 c = omega (arith, room (c .before) .from)
 
 copy-requires : tie.Need-copy-requires Inv-loop μ-loop
 copy-requires c κs =
-    let long = c .before .before .before .loop .inv .long in
+    let l′ = c .before .before .before in
+    let buf = l′ .loop .buf in
+    let d = l′ .loop .d in
+    let long = l′ .loop .inv .long in
     let r = room (c .before .before) in
-    let a = c .before .before .before .before .before .before .before .before .args in
-    let w = c .before .before .before .before .before .width-of .result in
-    let from = a .offset + (c .before .before .before .loop .d * a .count + a .index) * w in
+    let a = l′ .before .before .before .before .before .args in
+    let w = l′ .before .before .width-of .result in
+    let from = a .offset + (d * a .count + a .index) * w in
     let l = length-take-le (from + w - from) (drop from (a .s .now)) (omega (arith, length-drop from (a .s .now), r .from)) in
-    let m = length-take-le (length (c .before .before .before .loop .buf) - c .before .before .before .loop .d * w) (drop (c .before .before .before .loop .d * w) (c .before .before .before .loop .buf)) (omega (arith, length-drop (c .before .before .before .loop .d * w) (c .before .before .before .loop .buf))) in
+    let m = length-take-le (length buf - d * w) (drop (d * w) buf) (omega (arith, length-drop (d * w) buf)) in
     omega (arith, l, m, r .to)
-
-add-d : tie.Need-add-d Inv-loop μ-loop
-add-d c = search needs
-
-loop-less : tie.Need-loop-less Inv-loop μ-loop
-loop-less c = search needs
 
 loop-again : tie.Need-loop-again Inv-loop μ-loop
 loop-again c =
-    let e = c .before .before .before .before .before .before .before .before .width-of .ensures in
+    let l = c .before .before .before .before .before .before in
+    let s = l .before .before .before .before .before in
+    let e = l .before .before .width-of .ensures in
     rw e
-    (vector-next _ _ _ _ _ _ (c .before .before .before .before .before .before .before .before .before .before .before .pre) _ _ _ _ (c .before .before .before .before .before .before .loop .inv) (omega arith) (omega (arith, ap (λ w. c .before .before .before .before .before .before .before .before .before .before .before .args .dim * w) e)) (rw e at (c .before .before .copy .ensures)))
+    (vector-next _ _ _ _ _ _ (s .pre) _ _ _ _ (l .loop .inv) (omega arith)
+    (omega (arith, ap (λ w. s .args .dim * w) e)) (rw e at (c .before .before .copy .ensures)))
 
 same-length : tie.Need-same-length Inv-loop μ-loop
 same-length c = c .before .loop .inv .long
 
 returns-2 : tie.Need-returns-2 Inv-loop μ-loop
 returns-2 c =
-    let n = vector-length (c .before .before .before .before .before .before .args .s .now) (c .before .before .before .before .before .before .args .offset) (c .before .before .before .before .before .before .args .count) (c .before .before .before .before .before .before .args .dim) (c .before .before .before .before .before .before .args .dtype) (c .before .before .before .before .before .before .args .index) (c .before .before .before .before .before .before .pre) in
-    let e = ap (λ w. c .before .before .before .before .before .before .args .dim * w) (c .before .before .before .width-of .ensures) in
-    write-done _ _ 0 _ _ refl (omega arith) (omega arith) (vector-last _ _ _ _ _ _ (c .before .before .before .before .before .before .pre) _ _ _ (c .before .loop .inv) (omega arith))
+    let wo = c .before .before .before in
+    let s = wo .before .before .before in
+    let n = vector-length (s .args .s .now) (s .args .offset) (s .args .count) (s .args .dim) (s .args .dtype) (s .args .index) (s .pre) in
+    let e = ap (λ w. s .args .dim * w) (wo .width-of .ensures) in
+    write-done _ _ 0 _ _ refl (omega arith) (omega arith) (vector-last _ _ _ _ _ _ (s .pre) _ _ _ (c .before .loop .inv) (omega arith))
 
 pub read-vector-spec : {M : Type 1} → statement M
 read-vector-spec =
     tie.close
     (tie.spec
-    Inv-loop
-    μ-loop
-    width-of-requires
-    mul-n
-    returns
-    loop-holds
-    mul-from
-    add-from
-    mul-from-2
-    add-from-2
-    add-end
-    mul-to
-    sub-copy
-    part-copy-start
-    part-copy-end
-    sub-copy-2
-    part-copy-start-2
-    part-copy-end-2
-    copy-requires
-    add-d
-    loop-less
-    loop-again
-    same-length
-    returns-2)
+    Inv-loop μ-loop (λ c κs. search needs) mul-n returns loop-holds mul-from add-from mul-from-2 add-from-2
+    add-end mul-to sub-copy part-copy-start (λ c. search needs) sub-copy-2 part-copy-start-2 part-copy-end-2
+    copy-requires (λ c. search needs) (λ c. search needs) loop-again same-length returns-2)

@@ -18,15 +18,6 @@ sub-clear c = omega (arith, round64-ge (c .before .before .args .at))
 part-clear-start : tie.Need-part-clear-start
 part-clear-start c = omega (arith, round64-ge (c .before .before .args .at))
 
-part-clear-end : tie.Need-part-clear-end
-part-clear-end c = search needs
-
-clear-requires : tie.Need-clear-requires
-clear-requires c κs = search needs
-
-same-length : tie.Need-same-length
-same-length c = search needs
-
 returns : tie.Need-returns
 returns c = pad-laid _ _ _ _ (c .before .before .before .before .round-up .ensures) (omega arith) (c .before .before .clear .ensures)
 
@@ -34,10 +25,5 @@ pub pad-spec : {M : Type 1} → statement M
 pad-spec =
     tie.close
     (tie.spec
-    round-up-requires
-    sub-clear
-    part-clear-start
-    part-clear-end
-    clear-requires
-    same-length
+    round-up-requires sub-clear part-clear-start (λ c. search needs) (λ c κs. search needs) (λ c. search needs)
     returns)

@@ -18,37 +18,51 @@ sub-put : tie.Need-sub-put
 sub-put c = omega (arith, round64-ge (c .before .before .before .before .before .before .before .args .end + 4), c .before .before .copy .kept .0)
 
 part-put-start : tie.Need-part-put-start
-part-put-start c = omega (arith, round64-ge (c .before .before .before .before .before .before .before .args .end + 4), c .before .before .copy .kept .0)
-
-part-put-end : tie.Need-part-put-end
-part-put-end c = search needs
+part-put-start c = omega (
+  arith,
+  round64-ge (c .before .before .before .before .before .before .before .args .end
+      + 4),
+  c .before .before .copy .kept .0,
+)
 
 put-requires : tie.Need-put-requires
-put-requires c κs = (c .before .before .before .before .before .before .before .before .pre .0, omega (arith, round64-ge (c .before .before .before .before .before .before .before .before .args .end + 4), c .before .before .before .copy .kept .0))
+put-requires c κs =
+    let c′ = c .before .before .before in
+    let s = c′ .before .before .before .before .before in
+    (s .pre .0, omega (arith, round64-ge (s .args .end + 4), c′ .copy .kept .0))
 
 slice-reshare-prefix-checksum : tie.Need-slice-reshare-prefix-checksum
-slice-reshare-prefix-checksum c = omega (arith, round64-ge (c .before .before .before .before .before .before .before .before .before .before .before .args .end + 4))
+slice-reshare-prefix-checksum c =
+    omega (
+      arith,
+      round64-ge
+          (c .before .before .before .before .before .before .before .before .before .before .before .args .end + 4),
+    )
 
 slice-aggregate-checksum : tie.Need-slice-aggregate-checksum
-slice-aggregate-checksum c = sym (length-take-le _ _ (omega (arith, round64-ge (c .before .before .before .before .before .before .before .before .before .before .before .before .args .end + 4))))
-
-checksum-requires : tie.Need-checksum-requires
-checksum-requires c κs = search needs
-
-cast-put : tie.Need-cast-put
-cast-put c = search needs
+slice-aggregate-checksum c =
+    sym (length-take-le _ _
+    (omega (
+      arith,
+      round64-ge
+          (c .before .before .before .before .before .before .before .before .before .before .before .before .args .end
+          + 4),
+    )))
 
 put-requires-2 : tie.Need-put-requires-2
-put-requires-2 c κs = omega (arith, round64-ge (c .before .before .before .before .before .before .before .before .before .before .before .before .before .before .args .end + 4))
+put-requires-2 c κs =
+    omega (
+      arith,
+      round64-ge
+          (c .before .before .before .before .before .before .before .before .before .before .before .before .before .before .args .end + 4),
+    )
 
 add-pad : tie.Need-add-pad
-add-pad c = omega (arith, round64-ge (c .before .before .before .before .before .before .before .before .before .before .before .before .before .before .before .before .before .before .args .end + 4))
-
-pad-requires : tie.Need-pad-requires
-pad-requires c κs = search needs
-
-same-length : tie.Need-same-length
-same-length c = search needs
+add-pad c = omega (
+  arith,
+  round64-ge
+      (c .before .before .before .before .before .before .before .before .before .before .before .before .before .before .before .before .before .before .args .end + 4),
+)
 
 returns : tie.Need-returns
 returns c =
@@ -58,24 +72,14 @@ returns c =
     let o = m .before .before .before .before in
     let s = o .before .before .before .before .before in
     block-laid (s .args .buf .now) _ _ _ _ _ (s .pre .1 .0) (s .pre .1 .1)
-    (map-laid (s .args .buf .now) (o .copy .last .0) (m .put .last .0) _ _ _ (s .pre .1 .0) (s .pre .1 .1) (o .copy .ensures) (m .put .ensures)) (k .checksum .ensures) _ _
+    (map-laid (s .args .buf .now) (o .copy .last .0) (m .put .last .0) _ _ _ (s .pre .1 .0) (s .pre .1 .1)
+    (o .copy .ensures) (m .put .ensures)) (k .checksum .ensures) _ _
     (w .put2 .ensures) (c .before .before .pad .ensures)
 
 pub put-block-spec : {M : Type 1} → statement M
 put-block-spec =
     tie.close
     (tie.spec
-    copy-requires
-    sub-put
-    part-put-start
-    part-put-end
-    put-requires
-    slice-reshare-prefix-checksum
-    slice-aggregate-checksum
-    checksum-requires
-    cast-put
-    put-requires-2
-    add-pad
-    pad-requires
-    same-length
-    returns)
+    copy-requires sub-put part-put-start (λ c. search needs) put-requires slice-reshare-prefix-checksum
+    slice-aggregate-checksum (λ c κs. search needs) (λ c. search needs) put-requires-2 add-pad
+    (λ c κs. search needs) (λ c. search needs) returns)

@@ -7,30 +7,9 @@ use borrow.Author.Needs.{needs}
 use Rattle.vec_write.proofs.parts.put_directory.Statement.{statement}
 use Rattle.vec_write.proofs.parts.put_directory.Tie as tie
 
-put-requires : tie.Need-put-requires
-put-requires c κs = search needs
-
-put-requires-2 : tie.Need-put-requires-2
-put-requires-2 c κs = search needs
-
-put-requires-3 : tie.Need-put-requires-3
-put-requires-3 c κs = search needs
-
-put-requires-4 : tie.Need-put-requires-4
-put-requires-4 c κs = search needs
-
-put-requires-5 : tie.Need-put-requires-5
-put-requires-5 c κs = search needs
-
-put-requires-6 : tie.Need-put-requires-6
-put-requires-6 c κs = search needs
-
 pad-requires : tie.Need-pad-requires
 unfolding round64
 pad-requires c κs = omega arith
-
-same-length : tie.Need-same-length
-same-length c = search needs
 
 returns : tie.Need-returns
 returns c =
@@ -41,19 +20,13 @@ returns c =
     let p2 = p3 .before .before .before .before in
     let p1 = p2 .before .before .before .before in
     let s = p1 .before .before .before in
-    directory-laid (s .args .buf .now) _ _ _ _ _ _ _ _ _ _ _ (s .pre .0) (s .pre .1 .0) (s .pre .1 .1) (p1 .put .ensures) (p2 .put2 .ensures) (p3 .put3 .ensures)
+    directory-laid (s .args .buf .now) _ _ _ _ _ _ _ _ _ _ _ (s .pre .0) (s .pre .1 .0) (s .pre .1 .1)
+    (p1 .put .ensures) (p2 .put2 .ensures) (p3 .put3 .ensures)
     (p4 .put4 .ensures) (p5 .put5 .ensures) (p6 .put6 .ensures) (c .before .before .pad .ensures)
 
 pub put-directory-spec : {M : Type 1} → statement M
 put-directory-spec =
     tie.close
     (tie.spec
-    put-requires
-    put-requires-2
-    put-requires-3
-    put-requires-4
-    put-requires-5
-    put-requires-6
-    pad-requires
-    same-length
-    returns)
+    (λ c κs. search needs) (λ c κs. search needs) (λ c κs. search needs) (λ c κs. search needs)
+    (λ c κs. search needs) (λ c κs. search needs) pad-requires (λ c. search needs) returns)
