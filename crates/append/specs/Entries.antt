@@ -11,16 +11,16 @@ use Rattle.segment.specs.chain.Chain.{All}
 use Rattle.octets.specs.Over.{over}
 use Rattle.octets.specs.OverLaws.{over-none, over-front}
 use Rattle.octets.specs.le.Le.{leAt, leOf}
-use Rattle.segment.specs.Header.{Link}
+use Rattle.segment.specs.Header.{Link, idAt, kindAt}
 use Rattle.segment.specs.Laws.{linkFront, Lies, lies}
 use Rattle.segment.specs.Chained.{offsetsOf}
 use Rattle.manifest.specs.Lying.{Lying}
 
 unfoldable pub idsAt : List ℕ → List ℕ → List ℕ
-idsAt f os = map (λ o. leAt 8 f (o + 0x08)) os
+idsAt f os = map (λ o. idAt f o) os
 
 unfoldable pub kindsAt : List ℕ → List ℕ → List ℕ
-kindsAt f os = map (λ o. getD f (o + 0x05) 0) os
+kindsAt f os = map (λ o. kindAt f o) os
 
 -- ---- of links that lie in the file
 
@@ -57,23 +57,23 @@ unfolding idsAt kindsAt
 read-first f os ids ks = record { few = omega arith; ids-long = refl; ids-are = sym (over-none ids 0); kinds-long = refl; kinds-are = sym (over-none ks 0) }
 
 pub read-next : (f os ids₀ ids ks₀ ks : List ℕ) (i : ℕ) → ReadAt f os ids₀ ids ks₀ ks i → i < length os → length os ≤ length ids₀ → length os ≤ length ks₀
-    → (x : ℕ) → x ≡ leAt 8 f (getD os i 0 + 0x08) → ReadAt f os ids₀ (set ids i x) ks₀ (set ks i (getD f (getD os i 0 + 0x05) 0)) (i + 1)
+    → (x : ℕ) → x ≡ idAt f (getD os i 0) → ReadAt f os ids₀ (set ids i x) ks₀ (set ks i (kindAt f (getD os i 0))) (i + 1)
 unfolding idsAt kindsAt
 read-next f os ids₀ ids ks₀ ks i st h a b x e =
     let n : length (take i os) ≡ i = length-take-le i os (omega arith) in
-    let idsg : ℕ → ℕ = λ o. leAt 8 f (o + 0x08) in
-    let ksg : ℕ → ℕ = λ o. getD f (o + 0x05) 0 in
+    let idsg : ℕ → ℕ = λ o. idAt f o in
+    let ksg : ℕ → ℕ = λ o. kindAt f o in
     record {
       few = omega arith;
       ids-long = length-set ids i x ∙ st .ids-long;
       ids-are =
-          over-front ids₀ ids (map (λ o. leAt 8 f (o + 0x08)) (take i os)) i x (st .ids-are) (length-map (take i os) (λ o. leAt 8 f (o + 0x08)) ∙ n) (omega arith)
-          ∙ ap (λ (y : ℕ). over ids₀ 0 (map (λ o. leAt 8 f (o + 0x08)) (take i os) ++ (y ∷ []))) e
-          ∙ ap (over ids₀ 0) (sym (map-more (λ o. leAt 8 f (o + 0x08)) os i h));
-      kinds-long = length-set ks i (getD f (getD os i 0 + 0x05) 0) ∙ st .kinds-long;
+          over-front ids₀ ids (map (λ o. idAt f o) (take i os)) i x (st .ids-are) (length-map (take i os) (λ o. idAt f o) ∙ n) (omega arith)
+          ∙ ap (λ (y : ℕ). over ids₀ 0 (map (λ o. idAt f o) (take i os) ++ (y ∷ []))) e
+          ∙ ap (over ids₀ 0) (sym (map-more (λ o. idAt f o) os i h));
+      kinds-long = length-set ks i (kindAt f (getD os i 0)) ∙ st .kinds-long;
       kinds-are =
-          over-front ks₀ ks (map (λ o. getD f (o + 0x05) 0) (take i os)) i (getD f (getD os i 0 + 0x05) 0) (st .kinds-are) (length-map (take i os) (λ o. getD f (o + 0x05) 0) ∙ n) (omega arith)
-          ∙ ap (over ks₀ 0) (sym (map-more (λ o. getD f (o + 0x05) 0) os i h));
+          over-front ks₀ ks (map (λ o. kindAt f o) (take i os)) i (kindAt f (getD os i 0)) (st .kinds-are) (length-map (take i os) (λ o. kindAt f o) ∙ n) (omega arith)
+          ∙ ap (over ks₀ 0) (sym (map-more (λ o. kindAt f o) os i h));
     }
 
 pub read-last : (f os ids₀ ids ks₀ ks : List ℕ) (i : ℕ) → ReadAt f os ids₀ ids ks₀ ks i → length os ≤ i

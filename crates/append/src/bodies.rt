@@ -8,10 +8,11 @@ ghost use Rattle.octets.specs.Over.{over};
 ghost use Rattle.segment.specs.Chained.{offsetsOf};
 ghost use Rattle.batch.specs.Form.{batchHeld, bodyCount, bodiesOf};
 ghost use Rattle.appending.specs.Append.{bodyLinks, bodyBytes, bodiesEnd};
+ghost use Rattle.answers.specs.limits.Limits.{maxFile};
 
 // Where the bodies of a batch end, if they begin at a place.
 pub fn bodies_end(batch: &[u8], start: usize) -> usize
-    requires { ⌜ (batchHeld (now batch) ≡ true) × (start ≤ 16777216) ⌝ }
+    requires { ⌜ (batchHeld (now batch) ≡ true) × (start ≤ maxFile) ⌝ }
     ensures { λ r. ⌜ r ≡ bodiesEnd start (bodiesOf (now (batch .entry))) ⌝ }
 {
     let m = octets::le::u32_at(batch, 0) as usize;

@@ -10,6 +10,7 @@ ghost use Rattle.batch.specs.Form.{batchHeld, bodiesOf};
 ghost use Rattle.appending.specs.Append.{appendedAnswer};
 ghost use Rattle.append.specs.commit.Late.{nextOf, lateAnswer, lateBuffer};
 ghost use Rattle.append.specs.commit.Base.{Base};
+ghost use Rattle.answers.specs.limits.Limits.{maxEntries};
 use appending::Appended;
 
 // Whether the new manifest's id would pass the largest number: ids go on from `last`, or from 0 in an empty file.
@@ -47,7 +48,7 @@ pub fn finish(
     offsets: &mut [u64],
     states: &[u8],
 ) -> Appended
-    requires { ⌜ (batchHeld (now batch) ≡ true) × ((length (now offsets) ≡ most) × (length (now states) ≡ 1024)) ⌝ }
+    requires { ⌜ (batchHeld (now batch) ≡ true) × ((length (now offsets) ≡ most) × (length (now states) ≡ maxEntries)) ⌝ }
     requires { ⌜ Base (take start (now buf)) (now offsets) start kept first last ⌝ }
     ensures { λ r. ⌜ appendedAnswer r ≡ lateAnswer (length (now (buf .entry))) (opened (take start (now (buf .entry)))) (bodiesOf (now (batch .entry))) ⌝ }
     ensures { λ _. ⌜ now (buf .exit) ≡ lateBuffer (opened (take start (now (buf .entry)))) (now (buf .entry)) (bodiesOf (now (batch .entry))) (now (states .entry)) timestamp ⌝ }
@@ -62,7 +63,7 @@ pub fn finish(
     }
     let next = next_id(first, last);
     let at = crate::bodies::bodies_end(batch, start);
-    let end = at + 64 + octets::round_up(octets::round_up(8 + 48 * count) + 4096);
+    let end = at + 64 + octets::round_up(octets::round_up(manifest::fields::RECORD_HEAD + manifest::fields::ENTRY_SIZE * count) + manifest::fields::ROOT_SIZE);
     if end > answers::limits::MAX_FILE {
         return Appended::Refused(1);
     }

@@ -12,7 +12,7 @@ fn line_held(line: &[u8], at: usize) -> bool
     if !segment::kind_held(line[0]) {
         return false;
     }
-    if line[0] == 0x05 {
+    if line[0] == manifest::fields::KIND {
         return false;
     }
     if line[1] != 0 {

@@ -19,6 +19,7 @@ ghost use Rattle.appending.specs.Retire.{retireHeld, retired};
 ghost use Rattle.appending.specs.Append.{oldLinks, oldStates, Appends, appendedAnswer};
 ghost use Rattle.append.specs.commit.Answer.{batchNumber};
 ghost use Rattle.append.specs.Entries.{idsAt, kindsAt};
+ghost use Rattle.answers.specs.limits.Limits.{maxEntries};
 use appending::Appended;
 use manifest::Opened;
 
@@ -42,8 +43,8 @@ fn read_entries(file: &[u8], offsets: &[u64], entry_ids: &mut [u64], kinds: &mut
     let mut i: usize = 0;
     while i < offsets.len() {
         let offset = offsets[i] as usize;
-        entry_ids[i] = octets::le::u64_at(file, offset + 0x08);
-        kinds[i] = file[offset + 0x05];
+        entry_ids[i] = octets::le::u64_at(file, offset + segment::fields::ID);
+        kinds[i] = file[offset + segment::fields::KIND];
         i += 1;
     }
 }
@@ -57,17 +58,17 @@ fn retire_states(
     ids: &[u64],
     states: &mut [u8],
 ) -> bool
-    requires { ⌜ (most ≤ length (now offsets)) × (now states ≡ replicate 1024 0) ⌝ }
+    requires { ⌜ (most ≤ length (now offsets)) × (now states ≡ replicate maxEntries 0) ⌝ }
     requires { ⌜ Indexed (now file) (now offsets) ⌝ }
     requires { ⌜ ManifestAt (now file) manifest count ⌝ }
     ensures { λ r. ⌜ r ≡ retireHeld (oldLinks (opened (now (file .entry)))) (oldStates (opened (now (file .entry)))) (now (ids .entry)) ⌝ }
-    ensures { λ r. ⌜ (r ≡ true → now (states .exit) ≡ retired (oldLinks (opened (now (file .entry)))) (oldStates (opened (now (file .entry)))) (now (ids .entry)) ++ replicate (1024 - count) 0) ⌝ }
+    ensures { λ r. ⌜ (r ≡ true → now (states .exit) ≡ retired (oldLinks (opened (now (file .entry)))) (oldStates (opened (now (file .entry)))) (now (ids .entry)) ++ replicate (maxEntries - count) 0) ⌝ }
 {
     let body = manifest + 64;
-    let end = body + octets::le::u64_at(file, manifest + 0x10) as usize;
+    let end = body + octets::le::u64_at(file, manifest + segment::fields::LENGTH) as usize;
     confirm::states::read_states(states, &file[body..end], count);
-    let mut entry_ids = [0u64; 1024];
-    let mut kinds = [0u8; 1024];
+    let mut entry_ids = [0u64; answers::limits::MAX_ENTRIES];
+    let mut kinds = [0u8; answers::limits::MAX_ENTRIES];
     read_entries(file, &offsets[..count], &mut entry_ids, &mut kinds);
     crate::retire::mark(
         &entry_ids[..count],
@@ -90,7 +91,7 @@ pub fn append(buf: &mut [u8], n: u64, batch: &[u8], ids: &[u64], timestamp: u64)
         return Appended::Refused(1);
     }
     let size = n as usize;
-    let mut offsets = [0u64; 1025];
+    let mut offsets = [0u64; segment::index::MOST];
     let found = opening::open_with(&buf[..size], &mut offsets);
     match found {
         Opened::Refused(number) => Appended::Refused(number),
@@ -105,7 +106,7 @@ pub fn append(buf: &mut [u8], n: u64, batch: &[u8], ids: &[u64], timestamp: u64)
             if ids.len() > 0 {
                 return Appended::Refused(11);
             }
-            let states = [0u8; 1024];
+            let states = [0u8; answers::limits::MAX_ENTRIES];
             crate::commit::finish(buf, batch, 0, 0, true, 0, timestamp, &mut offsets, &states)
         }
         Opened::At {
@@ -119,7 +120,7 @@ pub fn append(buf: &mut [u8], n: u64, batch: &[u8], ids: &[u64], timestamp: u64)
             if bad != 0 {
                 return Appended::Refused(bad);
             }
-            let mut states = [0u8; 1024];
+            let mut states = [0u8; answers::limits::MAX_ENTRIES];
             if !retire_states(&buf[..size], &offsets, offset, count, ids, &mut states) {
                 return Appended::Refused(11);
             }

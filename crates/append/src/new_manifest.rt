@@ -7,6 +7,7 @@ ghost use Rattle.octets.specs.Round.{round64};
 ghost use Rattle.segment.specs.Written.{segment};
 ghost use Rattle.manifest.specs.Payload.{payloadLength};
 ghost use Rattle.manifest.specs.At.{Inside, payloadAt};
+ghost use Rattle.answers.specs.limits.Limits.{maxEntries, maxFile};
 
 // The manifest of the links at some offsets, with their states, as a segment at a place. Its payload is put together in a list of our own, since the
 // headers that it copies stand in the same buffer.
@@ -18,12 +19,12 @@ pub fn put_manifest(
     offsets: &[u64],
     states: &[u8],
 )
-    requires { ⌜ (length (now offsets) ≤ 1024) × (length (now offsets) ≤ length (now states)) ⌝ }
-    requires { ⌜ (at + (64 + round64 (payloadLength (length (now offsets)))) ≤ length (now buf)) × (at ≤ 16777216) ⌝ }
+    requires { ⌜ (length (now offsets) ≤ maxEntries) × (length (now offsets) ≤ length (now states)) ⌝ }
+    requires { ⌜ (at + (64 + round64 (payloadLength (length (now offsets)))) ≤ length (now buf)) × (at ≤ maxFile) ⌝ }
     requires { ⌜ Inside (take at (now buf)) (now offsets) ⌝ }
     ensures { λ _. ⌜ now (buf .exit) ≡ over (now (buf .entry)) at (segment 5 0 id timestamp (payloadAt (take at (now (buf .entry))) (now (offsets .entry)) (now (states .entry)) at id)) ⌝ }
 {
-    let mut payload = [0u8; 53312];
+    let mut payload = [0u8; manifest::fields::MAX_PAYLOAD];
     let n = confirm::payload::put_payload(&mut payload, &buf[..at], offsets, states, at as u64, id);
-    segment::write::put_segment(&mut buf[at..], 0x05, 0, id, timestamp, &payload[..n]);
+    segment::write::put_segment(&mut buf[at..], manifest::fields::KIND, 0, id, timestamp, &payload[..n]);
 }

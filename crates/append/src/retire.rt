@@ -20,7 +20,7 @@ pub fn mark(entry_ids: &[u64], kinds: &[u8], states: &mut [u8], ids: &[u64]) -> 
         match place {
             Index::Nowhere => return false,
             Index::Place(i) => {
-                if kinds[i] == 0x05 {
+                if kinds[i] == manifest::fields::KIND {
                     return false;
                 }
                 if states[i] != 0 {

@@ -15,7 +15,7 @@ fn body_bad(batch: &[u8], j: usize) -> u32
     ensures { λ r. ⌜ r ≡ bodyBad (getD (bodiesOf (now (batch .entry))) j noBody) ⌝ }
 {
     let line = 16 + 16 * j;
-    if batch[line] != 0x01 {
+    if batch[line] != vecseg::KIND {
         return 0;
     }
     let from = octets::le::u32_at(batch, line + 4) as usize;

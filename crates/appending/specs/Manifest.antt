@@ -65,7 +65,7 @@ module _ (ls : List Link) (ss : List ℕ) (offset id : ℕ) (t : All Hashed ls) 
   pub payload-length : length (manifestPayload ls ss offset id) ≡ payloadLength (length ls)
   unfolding manifestPayload recordBytes payloadLength leBytes
   payload-length =
-      let e : length (entries ls ss) ≡ 48 * length ls = length-entriesOf entryBytes entrySize ls ss (all-long ls t) in
+      let e : length (entries ls ss) ≡ entrySize * length ls = length-entriesOf entryBytes entrySize ls ss (all-long ls t) in
       let r = length-root (length ls) offset id in
       let g = record-ge (length ls) in
       simp (length-append, length-replicate) (omega arith)

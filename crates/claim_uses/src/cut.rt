@@ -6,6 +6,7 @@ ghost use lib.ListN.{length};
 ghost use Rattle.manifest.specs.Opening.{opened};
 ghost use Rattle.appending.specs.Append.{startOf, appendBuffer};
 ghost use Rattle.claim_uses.specs.cut.CutRead.{CutReadPromise};
+ghost use Rattle.answers.specs.limits.Limits.{maxFile};
 use appending::Appended;
 use manifest::Opened;
 use vecseg::Vector;
@@ -19,7 +20,7 @@ pub enum CutRead {
 
 // Where an append to a file starts: its manifest's end, or 0 where there is none.
 fn start_of(file: &[u8]) -> usize
-    ensures { λ r. ⌜ (length (now (file .entry)) ≤ 16777216 → r ≡ startOf (opened (now (file .entry)))) ⌝ }
+    ensures { λ r. ⌜ (length (now (file .entry)) ≤ maxFile → r ≡ startOf (opened (now (file .entry)))) ⌝ }
 {
     let o = opening::open(file);
     match o {

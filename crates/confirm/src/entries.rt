@@ -5,6 +5,7 @@ ghost use Prim.Native.Nat.{_+_, _*_, _≤_, _<_};
 ghost use lib.ListN.{length, take, drop};
 ghost use Rattle.octets.specs.Over.{over};
 ghost use Rattle.manifest.specs.At.{Inside, entryAt, entriesAt};
+ghost use Rattle.manifest.specs.Payload.{entriesEnd};
 
 // Some bytes of the file, at a place of a buffer.
 fn copy_at(buf: &mut [u8], at: usize, file: &[u8], from: usize, n: usize)
@@ -28,19 +29,19 @@ pub fn put_entry(buf: &mut [u8], at: usize, file: &[u8], offset: usize, state: u
     requires { ⌜ (at + 48 ≤ length (now buf)) × (offset + 64 ≤ length (now file)) ⌝ }
     ensures { λ _. ⌜ now (buf .exit) ≡ over (now (buf .entry)) at (entryAt (now (file .entry)) offset state) ⌝ }
 {
-    let kind = file[offset + 0x05];
+    let kind = file[offset + segment::fields::KIND];
     octets::le::put(buf, at, 8, offset as u64);
-    copy_at(buf, at + 8, file, offset + 0x08, 16);
-    copy_at(buf, at + 24, file, offset + 0x28, 16);
-    put_byte(buf, at + 40, kind);
-    put_byte(buf, at + 41, state);
-    copy_at(buf, at + 42, file, offset + 0x06, 2);
-    octets::le::put(buf, at + 44, 4, 0);
+    copy_at(buf, at + manifest::fields::ID, file, offset + segment::fields::ID, 16);
+    copy_at(buf, at + manifest::fields::HASH, file, offset + segment::fields::HASH, 16);
+    put_byte(buf, at + manifest::fields::ENTRY_KIND, kind);
+    put_byte(buf, at + manifest::fields::STATE, state);
+    copy_at(buf, at + manifest::fields::FLAGS, file, offset + segment::fields::FLAGS, 2);
+    octets::le::put(buf, at + manifest::fields::ZEROS, 4, 0);
 }
 
 // The entries of the links at some offsets, right behind the record's eight bytes.
 pub fn put_entries(buf: &mut [u8], file: &[u8], offsets: &[u64], states: &[u8])
-    requires { ⌜ (8 + 48 * length (now offsets) ≤ length (now buf)) × (length (now offsets) ≤ length (now states)) ⌝ }
+    requires { ⌜ (entriesEnd (length (now offsets)) ≤ length (now buf)) × (length (now offsets) ≤ length (now states)) ⌝ }
     requires { ⌜ Inside (now file) (now offsets) ⌝ }
     ensures { λ _. ⌜ now (buf .exit) ≡ over (now (buf .entry)) 8 (entriesAt (now (file .entry)) (now (offsets .entry)) (now (states .entry))) ⌝ }
 {
@@ -48,7 +49,7 @@ pub fn put_entries(buf: &mut [u8], file: &[u8], offsets: &[u64], states: &[u8])
     while i < offsets.len() {
         let offset = offsets[i];
         let state = states[i];
-        put_entry(buf, 8 + 48 * i, file, offset as usize, state);
+        put_entry(buf, manifest::fields::RECORD_HEAD + manifest::fields::ENTRY_SIZE * i, file, offset as usize, state);
         i += 1;
     }
 }

@@ -9,6 +9,7 @@ ghost use lib.ListN.{length, take};
 ghost use Rattle.manifest.specs.Payload.{payloadLength};
 ghost use Rattle.manifest.specs.At.{Inside};
 ghost use Rattle.confirm.specs.states.At.{statesHeldAt, confirmedAt};
+ghost use Rattle.answers.specs.limits.Limits.{maxEntries};
 
 // Whether each of the links at some offsets may have its state.
 fn states_held(file: &[u8], offsets: &[u64], states: &[u8]) -> bool
@@ -19,7 +20,7 @@ fn states_held(file: &[u8], offsets: &[u64], states: &[u8]) -> bool
     let mut i: usize = 0;
     while i < offsets.len() {
         let offset = offsets[i] as usize;
-        let kind = file[offset + 0x05];
+        let kind = file[offset + segment::fields::KIND];
         if !crate::states::state_held(kind, states[i]) {
             return false;
         }
@@ -39,7 +40,7 @@ fn confirm_with(
     buf: &mut [u8],
 ) -> bool
     requires { ⌜ (at + (64 + len) ≤ length (now file)) × (len ≡ payloadLength (length (now offsets))) ⌝ }
-    requires { ⌜ (length (now offsets) ≤ 1024) × (length (now offsets) ≤ length (now states)) ⌝ }
+    requires { ⌜ (length (now offsets) ≤ maxEntries) × (length (now offsets) ≤ length (now states)) ⌝ }
     requires { ⌜ len ≤ length (now buf) ⌝ }
     requires { ⌜ Inside (now file) (now offsets) ⌝ }
     ensures { λ r. ⌜ r ≡ confirmedAt (now (file .entry)) (now (offsets .entry)) at len 5 id ⌝ }
@@ -72,16 +73,16 @@ pub fn is_confirmed(
     requires { ⌜ Inside (now file) (take n (now offsets)) ⌝ }
     ensures { λ r. ⌜ r ≡ confirmedAt (now (file .entry)) (take n (now (offsets .entry))) at len kind id ⌝ }
 {
-    if kind != 0x05 {
+    if kind != manifest::fields::KIND {
         return false;
     }
     if n > answers::limits::MAX_ENTRIES {
         return false;
     }
-    if len != octets::round_up(8 + 48 * n) + 4096 {
+    if len != octets::round_up(manifest::fields::RECORD_HEAD + manifest::fields::ENTRY_SIZE * n) + manifest::fields::ROOT_SIZE {
         return false;
     }
-    let mut states = [0u8; 1024];
-    let mut buf = [0u8; 53312];
+    let mut states = [0u8; answers::limits::MAX_ENTRIES];
+    let mut buf = [0u8; manifest::fields::MAX_PAYLOAD];
     confirm_with(file, &offsets[..n], at, len, id, &mut states, &mut buf)
 }

@@ -24,19 +24,19 @@ pub fn put_root(buf: &mut [u8], c: usize, offset: u64, id: u64)
     requires { ⌜ offset + 64 + round64 (payloadLength c) < 2 ^ 64 ⌝ }
     ensures { λ _. ⌜ now (buf .exit) ≡ over (now (buf .entry)) 0 (root c offset id) ⌝ }
 {
-    let long = 8 + 48 * c;
-    let size = octets::round_up(octets::round_up(long) + 4096);
+    let long = manifest::fields::RECORD_HEAD + manifest::fields::ENTRY_SIZE * c;
+    let size = octets::round_up(octets::round_up(long) + manifest::fields::ROOT_SIZE);
     let end = offset + 64 + size as u64;
     octets::copy(buf, &NAME);
-    octets::le::put(buf, 4, 2, 1);
-    octets::le::put(buf, 6, 2, c as u64);
-    octets::le::put(buf, 8, 8, offset);
-    octets::le::put(buf, 16, 8, id);
-    octets::le::put(buf, 24, 8, long as u64);
-    octets::le::put(buf, 32, 8, end);
-    clear_part(buf, 40, 4092);
-    let crc = crc32c::checksum(&buf[..4092]);
-    octets::le::put(buf, 4092, 4, crc as u64);
+    octets::le::put(buf, manifest::fields::ROOT_VERSION, 2, 1);
+    octets::le::put(buf, manifest::fields::ROOT_COUNT, 2, c as u64);
+    octets::le::put(buf, manifest::fields::ROOT_OFFSET, 8, offset);
+    octets::le::put(buf, manifest::fields::ROOT_ID, 8, id);
+    octets::le::put(buf, manifest::fields::ROOT_RECORD, 8, long as u64);
+    octets::le::put(buf, manifest::fields::ROOT_END, 8, end);
+    clear_part(buf, manifest::fields::ROOT_ZEROS, manifest::fields::ROOT_CHECKSUM);
+    let crc = crc32c::checksum(&buf[..manifest::fields::ROOT_CHECKSUM]);
+    octets::le::put(buf, manifest::fields::ROOT_CHECKSUM, 4, crc as u64);
 }
 
 // The payload of a manifest at an offset, with an id, over the links at some offsets with their states; and its length.
@@ -55,7 +55,7 @@ pub fn put_payload(
     ensures { λ _. ⌜ now (buf .exit) ≡ over (now (buf .entry)) 0 (payloadAt (now (file .entry)) (now (offsets .entry)) (now (states .entry)) offset id) ⌝ }
 {
     let c = offsets.len();
-    let long = 48 * c;
+    let long = manifest::fields::ENTRY_SIZE * c;
     let end = 8 + long;
     let filled = octets::round_up(end);
     octets::le::put(buf, 0, 2, 1);
@@ -64,5 +64,5 @@ pub fn put_payload(
     crate::entries::put_entries(buf, file, offsets, states);
     clear_part(buf, end, filled);
     put_root(&mut buf[filled..], c, offset, id);
-    filled + 4096
+    filled + manifest::fields::ROOT_SIZE
 }

@@ -4,11 +4,12 @@ ghost use Prim.Native.Nat.{_+_, _≤_, _<_};
 ghost use lib.ListN.{length};
 ghost use Rattle.idmap.specs.Decode.{rawMap, mapOf, mapAnswer};
 ghost use Rattle.idmap.specs.DecodeLaws.{Filled};
+ghost use Rattle.answers.specs.limits.Limits.{maxVectors};
 use answers::Wrote;
 
 // The ids of a raw map, whose head is read already.
 fn decode_raw(s: &[u8], count: usize, ids: &mut [u64]) -> Wrote
-    requires { ⌜ (count ≤ 4096) × (count ≤ length (now ids)) ⌝ }
+    requires { ⌜ (count ≤ maxVectors) × (count ≤ length (now ids)) ⌝ }
     ensures { λ r. ⌜ r ≡ mapAnswer (rawMap count (now (s .entry))) ⌝ }
     ensures { λ _. ⌜ Filled (rawMap count (now (s .entry))) (now (ids .exit)) ⌝ }
 {
@@ -32,7 +33,7 @@ fn decode_raw(s: &[u8], count: usize, ids: &mut [u64]) -> Wrote
 
 // A map of count ids: its length, and the ids at the front of a list that has room for them.
 pub fn decode(s: &[u8], count: usize, ids: &mut [u64]) -> Wrote
-    requires { ⌜ (1 ≤ count) × ((count ≤ 4096) × (count ≤ length (now ids))) ⌝ }
+    requires { ⌜ (1 ≤ count) × ((count ≤ maxVectors) × (count ≤ length (now ids))) ⌝ }
     ensures { λ r. ⌜ r ≡ mapAnswer (mapOf count (now (s .entry))) ⌝ }
     ensures { λ _. ⌜ Filled (mapOf count (now (s .entry))) (now (ids .exit)) ⌝ }
 {

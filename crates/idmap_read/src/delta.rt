@@ -7,6 +7,7 @@ ghost use Rattle.idmap.specs.Decode.{deltaMap, mapAnswer};
 ghost use Rattle.idmap.specs.DecodeLaws.{lowOf, Filled};
 ghost use Rattle.idmap.specs.DeltaLaws.{groupAfter};
 ghost use Rattle.idmap_read.specs.delta.Next.{nextOf};
+ghost use Rattle.answers.specs.limits.Limits.{maxVectors};
 use answers::Wrote;
 use varint::Varint;
 
@@ -57,7 +58,7 @@ pub fn left_after(r: usize, left: usize) -> usize
 
 // How many groups have begun behind one id.
 fn group_after(left: usize, g: usize) -> usize
-    requires { ⌜ g ≤ 4096 ⌝ }
+    requires { ⌜ g ≤ maxVectors ⌝ }
     ensures { λ x. ⌜ x ≡ groupAfter left g ⌝ }
 {
     if left == 0 { g + 1 } else { g }
@@ -65,7 +66,7 @@ fn group_after(left: usize, g: usize) -> usize
 
 // The ids of a delta map with restarts every r, whose head is read already.
 pub fn decode_delta(s: &[u8], count: usize, r: usize, ids: &mut [u64]) -> Wrote
-    requires { ⌜ (count ≤ 4096) × ((count ≤ length (now ids)) × ((0 < r) × (r < 65536))) ⌝ }
+    requires { ⌜ (count ≤ maxVectors) × ((count ≤ length (now ids)) × ((0 < r) × (r < 65536))) ⌝ }
     ensures { λ a. ⌜ a ≡ mapAnswer (deltaMap r count (now (s .entry))) ⌝ }
     ensures { λ _. ⌜ Filled (deltaMap r count (now (s .entry))) (now (ids .exit)) ⌝ }
 {

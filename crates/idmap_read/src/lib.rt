@@ -6,6 +6,7 @@ ghost use Prim.Native.Nat.{_≤_};
 ghost use lib.ListN.{length, take};
 ghost use Rattle.octets.specs.Over.{over};
 ghost use Rattle.idmap.specs.Decode.{mapOf, readAnswer, readBuffer};
+ghost use Rattle.answers.specs.limits.Limits.{maxVectors};
 use answers::Wrote;
 
 // The first n numbers of a list at the front of another.
@@ -22,7 +23,7 @@ fn copy_ids(ids: &mut [u64], from: &[u64], n: usize)
 
 // A map of a count within bounds. Its ids go through a list of our own, since a map that is refused must leave the lent one as it was.
 fn read_through(s: &[u8], count: usize, ids: &mut [u64], own: &mut [u64]) -> Wrote
-    requires { ⌜ (1 ≤ count) × ((count ≤ 4096) × (count ≤ length (now own))) ⌝ }
+    requires { ⌜ (1 ≤ count) × ((count ≤ maxVectors) × (count ≤ length (now own))) ⌝ }
     ensures { λ r. ⌜ r ≡ readAnswer (mapOf count (now (s .entry))) (now (ids .entry)) ⌝ }
     ensures { λ _. ⌜ now (ids .exit) ≡ readBuffer (mapOf count (now (s .entry))) (now (ids .entry)) ⌝ }
 {
@@ -55,6 +56,6 @@ pub fn read(s: &[u8], count: u64, ids: &mut [u64]) -> Wrote
         let mut short = [0u64; 64];
         return read_through(s, n, ids, &mut short);
     }
-    let mut long = [0u64; 4096];
+    let mut long = [0u64; answers::limits::MAX_VECTORS];
     read_through(s, n, ids, &mut long)
 }

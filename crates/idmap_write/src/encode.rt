@@ -6,6 +6,7 @@ ghost use Prim.Native.Nat.{_+_, _*_, _≤_, _<_};
 ghost use lib.ListN.{length};
 ghost use Rattle.octets.specs.Over.{over};
 ghost use Rattle.idmap.specs.Encode.{mapHead, rawIds, deltaOf, deltas, restartOf, restarts, risesFrom};
+ghost use Rattle.answers.specs.limits.Limits.{maxVectors};
 
 // Encoding, restart interval and count at the front of a buffer.
 pub fn put_head(buf: &mut [u8], encoding: u8, r: u64, count: u64)
@@ -43,7 +44,7 @@ fn delta(left: usize, prev: u64, x: u64) -> u64
 
 // How many bytes the varints of rising ids take.
 pub fn deltas_len(ids: &[u64], r: usize) -> usize
-    requires { ⌜ (length (now ids) ≤ 4096) × ((0 < r) × (risesFrom 0 (now ids) ≡ true)) ⌝ }
+    requires { ⌜ (length (now ids) ≤ maxVectors) × ((0 < r) × (risesFrom 0 (now ids) ≡ true)) ⌝ }
     ensures { λ n. ⌜ (n ≡ length (deltas r 0 0 (now (ids .entry)))) × (n ≤ 10 * length (now (ids .entry))) ⌝ }
 {
     let mut i: usize = 0;

@@ -9,10 +9,11 @@ ghost use Rattle.opening.specs.Indexed.{ManifestAt, Indexed};
 ghost use Rattle.reading.specs.Listing.{stateWord};
 ghost use Rattle.listing.specs.line.Lines.{lineAt};
 ghost use Rattle.listing.specs.entries.Entries.{entryLines};
+ghost use Rattle.segment.specs.Header.{lengthAt};
 
 // The line of an entry with a state.
 fn put_entry(text: &mut [u8], at: usize, file: &[u8], p: usize, state: u8) -> usize
-    requires { ⌜ p + (64 + leAt 8 (now file) (p + 0x10)) ≤ length (now file) ⌝ }
+    requires { ⌜ p + (64 + lengthAt (now file) p) ≤ length (now file) ⌝ }
     requires { ⌜ at + 97 ≤ length (now text) ⌝ }
     ensures { λ r. ⌜ Written (now (text .entry)) (now (text .exit)) at (lineAt (now (file .entry)) p (stateWord state)) r ⌝ }
     ensures { λ r. ⌜ r ≤ at + 97 ⌝ }
@@ -42,7 +43,7 @@ pub fn put_entries(
     let mut i: usize = 0;
     while i < count {
         let p = offsets[i] as usize;
-        end = put_entry(text, end, file, p, file[manifest + 72 + 48 * i + 41]);
+        end = put_entry(text, end, file, p, file[manifest + manifest::fields::ENTRIES + manifest::fields::ENTRY_SIZE * i + manifest::fields::STATE]);
         i += 1;
     }
     end

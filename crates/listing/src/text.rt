@@ -39,7 +39,7 @@ pub fn put_text(text: &mut [u8], file: &[u8]) -> usize
     if file.len() > 65536 {
         return octets::text::put_number(text, 0, b"refused ", 1, b"\n");
     }
-    let mut offsets = [0u64; 1025];
+    let mut offsets = [0u64; segment::index::MOST];
     let found = opening::open_with(file, &mut offsets);
     match found {
         Opened::Refused(number) => octets::text::put_number(text, 0, b"refused ", number as u64, b"\n"),

@@ -7,6 +7,7 @@ ghost use Rattle.segment.specs.index.Offsets.{most};
 ghost use Rattle.opening.specs.Indexed.{ManifestAt, Indexed};
 ghost use Rattle.reading.specs.Answers.{hitIn};
 ghost use Rattle.lookup.specs.in_segment.Located.{locatedOf};
+ghost use Rattle.answers.specs.limits.Limits.{maxVectors};
 use manifest::Opened;
 use crate::in_segment::Located;
 
@@ -19,7 +20,7 @@ fn search(
     id: u64,
     own: &mut [u64],
 ) -> Located
-    requires { ⌜ (most ≤ length (now offsets)) × (4096 ≤ length (now own)) ⌝ }
+    requires { ⌜ (most ≤ length (now offsets)) × (maxVectors ≤ length (now own)) ⌝ }
     requires { ⌜ Indexed (now file) (now offsets) ⌝ }
     requires { ⌜ ManifestAt (now file) manifest count ⌝ }
     ensures { λ r. ⌜ r ≡ locatedOf (hitIn (now (file .entry)) id) ⌝ }
@@ -28,10 +29,10 @@ fn search(
     while i > 0 {
         i -= 1;
         let p = offsets[i] as usize;
-        if file[p + 0x05] != 0x01 {
+        if file[p + segment::fields::KIND] != vecseg::KIND {
             continue;
         }
-        if file[manifest + 72 + 48 * i + 41] != 0 {
+        if file[manifest + manifest::fields::ENTRIES + manifest::fields::ENTRY_SIZE * i + manifest::fields::STATE] != 0 {
             continue;
         }
         let segment = crate::in_segment::look(file, p, id, own);
@@ -66,7 +67,7 @@ fn search(
 pub fn locate(file: &[u8], id: u64) -> Located
     ensures { λ r. ⌜ r ≡ locatedOf (hitIn (now (file .entry)) id) ⌝ }
 {
-    let mut offsets = [0u64; 1025];
+    let mut offsets = [0u64; segment::index::MOST];
     let found = opening::open_with(file, &mut offsets);
     match found {
         Opened::Refused(number) => Located::Refused(number),
@@ -78,7 +79,7 @@ pub fn locate(file: &[u8], id: u64) -> Located
             count,
             tried: _,
         } => {
-            let mut own = [0u64; 4096];
+            let mut own = [0u64; answers::limits::MAX_VECTORS];
             search(file, &offsets, offset, count, id, &mut own)
         }
     }

@@ -4,6 +4,8 @@ ghost use Prim.Native.Nat.{_+_, _≤_};
 ghost use lib.ListN.{length};
 ghost use Rattle.octets.specs.le.Le.{leAt};
 ghost use Rattle.lookup.specs.in_segment.Located.{lookAt};
+ghost use Rattle.segment.specs.Header.{lengthAt};
+ghost use Rattle.answers.specs.limits.Limits.{maxVectors};
 use vec_read::find::Found;
 
 // Where a vector stands: where its segment's payload begins in the file and how long it is; in that payload its block's offset, count, dim and dtype,
@@ -24,10 +26,10 @@ pub enum Located {
 
 // One segment, whose header begins at p, with a list of our own for the ids of a block: 4 where the hash differs, then the payload's check.
 pub fn look(file: &[u8], p: usize, id: u64, own: &mut [u64]) -> Located
-    requires { ⌜ (p + (64 + leAt 8 (now file) (p + 0x10)) ≤ length (now file)) × (4096 ≤ length (now own)) ⌝ }
-    ensures { λ r. ⌜ r ≡ lookAt (now (file .entry)) p (leAt 8 (now (file .entry)) (p + 0x10)) id ⌝ }
+    requires { ⌜ (p + (64 + lengthAt (now file) p) ≤ length (now file)) × (maxVectors ≤ length (now own)) ⌝ }
+    ensures { λ r. ⌜ r ≡ lookAt (now (file .entry)) p (lengthAt (now (file .entry)) p) id ⌝ }
 {
-    let length = octets::le::u64_at(file, p + 0x10) as usize;
+    let length = octets::le::u64_at(file, p + segment::fields::LENGTH) as usize;
     if !segment::is_whole(file, p, length) {
         return Located::Refused(4);
     }

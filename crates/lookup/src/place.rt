@@ -20,15 +20,15 @@ fn find(file: &[u8], offsets: &[u64], manifest: usize, count: usize, id: u64) ->
     let mut i: usize = 0;
     while i < count {
         let p = offsets[i] as usize;
-        if octets::le::u64_at(file, p + 0x08) != id {
+        if octets::le::u64_at(file, p + segment::fields::ID) != id {
             i += 1;
             continue;
         }
-        if file[manifest + 72 + 48 * i + 41] != 0 {
+        if file[manifest + manifest::fields::ENTRIES + manifest::fields::ENTRY_SIZE * i + manifest::fields::STATE] != 0 {
             i += 1;
             continue;
         }
-        let length = octets::le::u64_at(file, p + 0x10) as usize;
+        let length = octets::le::u64_at(file, p + segment::fields::LENGTH) as usize;
         if !segment::is_whole(file, p, length) {
             return PayloadPlace::Refused(4);
         }
@@ -44,7 +44,7 @@ fn find(file: &[u8], offsets: &[u64], manifest: usize, count: usize, id: u64) ->
 pub fn payload_place(file: &[u8], id: u64) -> PayloadPlace
     ensures { λ r. ⌜ r ≡ placeOf (partIn (now (file .entry)) id) ⌝ }
 {
-    let mut offsets = [0u64; 1025];
+    let mut offsets = [0u64; segment::index::MOST];
     let found = opening::open_with(file, &mut offsets);
     match found {
         Opened::Refused(number) => PayloadPlace::Refused(number),

@@ -12,7 +12,8 @@ use Rattle.octets.specs.le.Le.{leBytes}
 use Rattle.octets.specs.le.Laws.{length-leBytes}
 use Rattle.manifest.specs.Sized.{entriesOf}
 use Rattle.manifest.specs.SizedLaws.{length-entriesOf, recordBy-ge}
-use Rattle.manifest.specs.Payload.{entrySize, recordEnd, payloadLength, rootBytes, root}
+use Rattle.manifest.specs.Payload.{entrySize, recordEnd, payloadLength, rootBytes, root, entriesEnd}
+use Rattle.segment.specs.Header.{kindAt}
 
 -- every place has a header's bytes behind it
 abbrev pub Inside : List ℕ → List ℕ → Type 0
@@ -23,7 +24,7 @@ unfoldable pub entryAt : List ℕ → ℕ → ℕ → List ℕ
 entryAt f o state =
     leBytes 8 o
     ++ (take 16 (drop (o + 0x08) f)
-    ++ (take 16 (drop (o + 0x28) f) ++ ((getD f (o + 0x05) 0 ∷ []) ++ ((state ∷ []) ++ (take 2 (drop (o + 0x06) f) ++ leBytes 4 0)))))
+    ++ (take 16 (drop (o + 0x28) f) ++ ((kindAt f o ∷ []) ++ ((state ∷ []) ++ (take 2 (drop (o + 0x06) f) ++ leBytes 4 0)))))
 
 -- the entries of links at some places; the first state is the first link's
 abbrev pub entriesAt : List ℕ → List ℕ → List ℕ → List ℕ
@@ -34,7 +35,7 @@ unfoldable pub recordHead : ℕ → List ℕ
 recordHead c = leBytes 2 1 ++ (leBytes 4 (entrySize * c) ++ leBytes 2 0)
 
 unfoldable pub fill : ℕ → List ℕ
-fill c = replicate (recordEnd c - (8 + entrySize * c)) 0
+fill c = replicate (recordEnd c - (entriesEnd c)) 0
 
 unfoldable pub payloadAt : List ℕ → List ℕ → List ℕ → ℕ → ℕ → List ℕ
 payloadAt f os ss offset id = ((recordHead (length os) ++ entriesAt f os ss) ++ fill (length os)) ++ root (length os) offset id
@@ -65,12 +66,12 @@ pub length-recordHead : (c : ℕ) → length (recordHead c) ≡ 8
 unfolding recordHead
 length-recordHead c = simp (length-append, length-leBytes)
 
-pub record-ge : (c : ℕ) → 8 + entrySize * c ≤ recordEnd c
+pub record-ge : (c : ℕ) → entriesEnd c ≤ recordEnd c
 record-ge = recordBy-ge entrySize
 
-pub length-fill : (c : ℕ) → length (fill c) ≡ recordEnd c - (8 + entrySize * c)
+pub length-fill : (c : ℕ) → length (fill c) ≡ recordEnd c - (entriesEnd c)
 unfolding fill
-length-fill c = length-replicate (recordEnd c - (8 + entrySize * c)) 0
+length-fill c = length-replicate (recordEnd c - (entriesEnd c)) 0
 
 pub length-rootBytes : (c offset id : ℕ) → length (rootBytes c offset id) ≡ 4092
 unfolding rootBytes

@@ -12,7 +12,7 @@ use Rattle.octets.specs.le.Laws.{bytes-drop, bytes-take, leBytes-leOf}
 use Rattle.segment.specs.chain.Chain.{All, walk}
 use Rattle.segment.specs.chain.Laws.{all-map}
 use Rattle.segment.specs.chain.Walk.{walk-cons}
-use Rattle.segment.specs.Header.{Link, State, reader, linkAt, size, after}
+use Rattle.segment.specs.Header.{Link, State, reader, linkAt, size, after, kindAt}
 use Rattle.segment.specs.Laws.{segment-format, linkFront, Lies, lies, size-least}
 use Rattle.segment.specs.Chained.{chain, offsetsOf}
 use Rattle.manifest.specs.SizedLaws.{entriesOf-same}
@@ -58,14 +58,14 @@ header-entry f o state t h =
     ∙ sym two
     ∙ ap (take 16) (drop-drop 0x08 o f) in
     let hash : take 16 (drop 0x28 (drop o f)) ≡ take 16 (drop (o + 0x28) f) = ap (take 16) (drop-drop 0x28 o f) in
-    let kind : getD (drop o f) 0x05 0 ≡ getD f (o + 0x05) 0 = getD-drop o f 0x05 0 in
+    let kind : getD (drop o f) 0x05 0 ≡ kindAt f o = getD-drop o f 0x05 0 in
     let flags : leBytes 2 (leAt 2 (drop o f) 0x06) ≡ take 2 (drop (o + 0x06) f) = le-back (drop o f) 2 0x06 b (omega arith) ∙ ap (take 2) (drop-drop 0x06 o f) in
     ap (λ (x : List ℕ). leBytes 8 o ++ x)
     (sym (append-assoc (leBytes 8 (leAt 8 (drop o f) 0x08)) (leBytes 8 (leAt 8 (drop o f) 0x10)) _)
     ∙ ap (λ (x : List ℕ). x ++ (take 16 (drop 0x28 (drop o f)) ++ ((getD (drop o f) 0x05 0 ∷ state ∷ []) ++ (leBytes 2 (leAt 2 (drop o f) 0x06) ++ leBytes 4 0)))) ids
     ∙ ap (λ (x : List ℕ). take 16 (drop (o + 0x08) f) ++ (x ++ ((getD (drop o f) 0x05 0 ∷ state ∷ []) ++ (leBytes 2 (leAt 2 (drop o f) 0x06) ++ leBytes 4 0)))) hash
     ∙ ap (λ (k : ℕ). take 16 (drop (o + 0x08) f) ++ (take 16 (drop (o + 0x28) f) ++ ((k ∷ state ∷ []) ++ (leBytes 2 (leAt 2 (drop o f) 0x06) ++ leBytes 4 0)))) kind
-    ∙ ap (λ (x : List ℕ). take 16 (drop (o + 0x08) f) ++ (take 16 (drop (o + 0x28) f) ++ ((getD f (o + 0x05) 0 ∷ state ∷ []) ++ (x ++ leBytes 4 0)))) flags)
+    ∙ ap (λ (x : List ℕ). take 16 (drop (o + 0x08) f) ++ (take 16 (drop (o + 0x28) f) ++ ((kindAt f o ∷ state ∷ []) ++ (x ++ leBytes 4 0)))) flags)
 
 -- the entry made of the header at a place is that of the link that is read there
 pub link-entry : (f : List ℕ) (st : State) (o : ℕ) (l : Link) (state : ℕ) → Bytes f → st .at ≡ o → linkAt st (drop o f) ≡ some l → entryAt f o state ≡ entryBytes l state

@@ -25,6 +25,14 @@ manifestKind = 0x05
 abbrev pub entrySize : ℕ
 entrySize = 48
 
+-- where c entries end in the payload, behind the record's eight bytes
+abbrev pub entriesEnd : ℕ → ℕ
+entriesEnd c = 8 + entrySize * c
+
+-- where the state of entry i stands in the file, of the manifest at an offset: behind its header and those eight bytes
+abbrev pub statePlace : ℕ → ℕ → ℕ
+statePlace offset i = offset + 72 + entrySize * i + 41
+
 -- offset u64, id u64, payload length u64, content_hash 16 bytes, type u8, state u8, flags u16, zero u32
 unfoldable pub entryBytes : Link → ℕ → List ℕ
 entryBytes l state =
@@ -59,7 +67,7 @@ recordEnd = recordBy entrySize
 unfoldable pub recordBytes : List Link → List ℕ → List ℕ
 recordBytes ls ss =
     (leBytes 2 1 ++ (leBytes 4 (entrySize * length ls) ++ (leBytes 2 0 ++ entries ls ss)))
-    ++ replicate (recordEnd (length ls) - (8 + entrySize * length ls)) 0
+    ++ replicate (recordEnd (length ls) - entriesEnd (length ls)) 0
 
 unfoldable pub payloadLength : ℕ → ℕ
 payloadLength c = recordEnd c + 4096
@@ -70,7 +78,7 @@ unfoldable pub rootBytes : ℕ → ℕ → ℕ → List ℕ
 rootBytes c offset id =
     (0x52 ∷ 0x56 ∷ 0x4D ∷ 0x30 ∷ [])
     ++ (leBytes 2 1
-    ++ (leBytes 2 c ++ (leBytes 8 offset ++ (leBytes 8 id ++ (leBytes 8 (8 + entrySize * c) ++ (leBytes 8 (offset + 64 + round64 (payloadLength c)) ++ replicate 4052 0))))))
+    ++ (leBytes 2 c ++ (leBytes 8 offset ++ (leBytes 8 id ++ (leBytes 8 (entriesEnd c) ++ (leBytes 8 (offset + 64 + round64 (payloadLength c)) ++ replicate 4052 0))))))
 
 -- the root: these, and their CRC32C
 unfoldable pub root : ℕ → ℕ → ℕ → List ℕ

@@ -1,4 +1,5 @@
 // Manifests and what opening finds: definitions and laws (specs/), and the types of what is answered about them.
+pub mod fields;
 
 // What opening a file answers: its manifest's offset, end and id, the number of its entries and the boundaries tried; or no manifest
 // with the boundaries tried; or the number of a refusal.

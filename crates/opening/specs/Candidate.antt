@@ -8,7 +8,7 @@ use native.Mathlib.Omega.{arith}
 use lib.ListN.{length, take, drop, getD}
 use lib.Seq.{take-take}
 use Rattle.octets.specs.le.Le.{leAt, Bytes}
-use Rattle.segment.specs.Header.{Link}
+use Rattle.segment.specs.Header.{Link, idAt, kindAt, lengthAt}
 use Rattle.segment.specs.Chained.{chain, offsetsOf}
 use Rattle.segment.specs.index.Offsets.{most, linkNo, Stored, stored-few}
 use Rattle.segment.specs.index.Numbered.{Numbered}
@@ -39,7 +39,7 @@ module _ (f offsets : List ℕ) (n i p : ℕ) (s : Stored f offsets n) (h : i < 
   pub candidate-inside : Inside f (take i offsets)
   candidate-inside = subst (Inside f) offsets-are (before-inside f p (take i (chain f)) (linkNo f i) (drop (i + 1) (chain f)) (m .placed))
 
-  pub candidate-is : Bytes f → (r : Bool) (len kind id : ℕ) → len ≡ leAt 8 f (p + 0x10) → kind ≡ getD f (p + 0x05) 0 → id ≡ leAt 8 f (p + 0x08)
+  pub candidate-is : Bytes f → (r : Bool) (len kind id : ℕ) → len ≡ lengthAt f p → kind ≡ kindAt f p → id ≡ idAt f p
       → r ≡ confirmedAt f (take i offsets) p len kind id → r ≡ confirmed (take i (chain f)) (linkNo f i)
   candidate-is t r len kind id el ek ei e =
       e

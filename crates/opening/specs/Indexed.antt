@@ -18,12 +18,12 @@ use Rattle.answers.specs.limits.Limits.{maxFile, maxEntries}
 use Rattle.segment.specs.chain.Laws.{sizes}
 use Rattle.segment.specs.chain.Chain.{Found, openOf}
 use Rattle.segment.specs.chain.Last.{Stands, last-stands}
-use Rattle.segment.specs.Header.{Link, whole, size, reader, noLink}
+use Rattle.segment.specs.Header.{Link, whole, size, reader, noLink, lengthAt}
 use Rattle.segment.specs.Chained.{chain, offsetsOf, link-place}
 use Rattle.segment.specs.index.Offsets.{most, linkNo, Stored, stored-has, stored-few}
 use Rattle.segment.specs.index.Numbered.{Numbered, numbered, numbered-at, number-of}
 use Rattle.manifest.specs.SizedLaws.{statesBy-at}
-use Rattle.manifest.specs.Payload.{manifestKind, entrySize, statesHeld, confirmed, manifestPayload, payloadLength, statesIn}
+use Rattle.manifest.specs.Payload.{manifestKind, entrySize, statesHeld, confirmed, manifestPayload, payloadLength, statesIn, entriesEnd, statePlace}
 use Rattle.manifest.specs.Opening.{opened, states, foundCase, openedCase}
 use Rattle.manifest.specs.OpeningLaws.{at-long, at-within}
 use Rattle.manifest.specs.At.{length-payloadAt, record-ge}
@@ -131,8 +131,8 @@ pub record EntryAt (f offsets : List ℕ) (r : Found Link) (offset i : ℕ) : Ty
   pub few : i < maxEntries
   pub link-is : getD (r .before) i noLink ≡ linkNo f i
   pub numbered : Numbered f (getD offsets i 0) i (linkNo f i)
-  pub state-is : getD (states r) i 0 ≡ getD f (offset + 72 + 48 * i + 41) 0
-  pub state-room : offset + 72 + 48 * i + 41 < length f
+  pub state-is : getD (states r) i 0 ≡ getD f (statePlace offset i) 0
+  pub state-room : statePlace offset i < length f
 
 module _ (f offsets : List ℕ) (offset count : ℕ) (t : Bytes f) (s : Indexed f offsets) (long : most ≤ length offsets) (m : ManifestAt f offset count) where
   abbrev b : List Link
@@ -142,7 +142,7 @@ module _ (f offsets : List ℕ) (offset count : ℕ) (t : Bytes f) (s : Indexed 
   l = m .found .link
 
   -- the directory's entries stand in the payload
-  entries-inside : 8 + 48 * count ≤ length (l .payload)
+  entries-inside : entriesEnd count ≤ length (l .payload)
   unfolding payloadLength
   entries-inside =
       let ss : List ℕ = statesIn (length (m .found .before)) (drop 8 (m .found .link .payload)) in
@@ -175,8 +175,8 @@ module _ (f offsets : List ℕ) (offset count : ℕ) (t : Bytes f) (s : Indexed 
       (numbered f offset (length b) (numbers .0) (sym (ap (λ (ls : List Link). sizes reader ls) (numbers .1 .0)) ∙ sym p ∙ m .offset-is))
 
   -- its payload is the file's bytes behind its header, and has room for the entries
-  pub manifest-part : (offset + (64 + leAt 8 f (offset + 0x10)) ≤ length f)
-      × ((take (leAt 8 f (offset + 0x10)) (drop (offset + 64) f) ≡ m .found .link .payload) × (8 + 48 * count ≤ leAt 8 f (offset + 0x10)))
+  pub manifest-part : (offset + (64 + lengthAt f offset) ≤ length f)
+      × ((take (lengthAt f offset) (drop (offset + 64) f) ≡ m .found .link .payload) × (entriesEnd count ≤ lengthAt f offset))
   manifest-part =
       let n = manifest-numbered in
       let k = n .length-is in
@@ -209,15 +209,15 @@ module _ (f offsets : List ℕ) (offset count : ℕ) (t : Bytes f) (s : Indexed 
     entry-stored : i < length (take most (chain f))
     entry-stored = let q = few in stored-has f offsets _ s i (omega (arith, m .count-is, numbers .0)) (omega arith)
 
-    state-at : getD (states (m .found)) i 0 ≡ getD f (offset + 72 + 48 * i + 41) 0
+    state-at : getD (states (m .found)) i 0 ≡ getD f (statePlace offset i) 0
     unfolding states
     state-at =
         let a = entries-inside in
         statesBy-at entrySize (length b) (drop 8 (l .payload)) i (omega (arith, m .count-is))
-        ∙ getD-drop 8 (l .payload) (48 * i + 41) 0
-        ∙ ap (λ (x : List ℕ). getD x (8 + (48 * i + 41)) 0) (manifest-numbered .payload-is)
-        ∙ getD-take (length (l .payload)) (drop (offset + 64) f) (8 + (48 * i + 41)) 0 (omega arith)
-        ∙ getD-drop (offset + 64) f (8 + (48 * i + 41)) 0
+        ∙ getD-drop 8 (l .payload) (entrySize * i + 41) 0
+        ∙ ap (λ (x : List ℕ). getD x (8 + (entrySize * i + 41)) 0) (manifest-numbered .payload-is)
+        ∙ getD-take (length (l .payload)) (drop (offset + 64) f) (8 + (entrySize * i + 41)) 0 (omega arith)
+        ∙ getD-drop (offset + 64) f (8 + (entrySize * i + 41)) 0
         ∙ ap (λ (k : ℕ). getD f k 0) (omega arith)
 
     pub entry-at : EntryAt f offsets (m .found) offset i

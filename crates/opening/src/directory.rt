@@ -16,13 +16,13 @@ fn read_entry(file: &[u8], p: usize, s: usize) -> DirectoryEntry
 {
     DirectoryEntry::Of {
         offset: p as u64,
-        id: octets::le::u64_at(file, p + 0x08),
-        length: octets::le::u64_at(file, p + 0x10),
-        hash_low: octets::le::u64_at(file, p + 0x28),
-        hash_high: octets::le::u64_at(file, p + 0x30),
-        kind: file[p + 0x05],
+        id: octets::le::u64_at(file, p + segment::fields::ID),
+        length: octets::le::u64_at(file, p + segment::fields::LENGTH),
+        hash_low: octets::le::u64_at(file, p + segment::fields::HASH),
+        hash_high: octets::le::u64_at(file, p + segment::fields::HASH_HIGH),
+        kind: file[p + segment::fields::KIND],
         state: file[s],
-        flags: octets::le::u16_at(file, p + 0x06),
+        flags: octets::le::u16_at(file, p + segment::fields::FLAGS),
     }
 }
 
@@ -30,7 +30,7 @@ fn read_entry(file: &[u8], p: usize, s: usize) -> DirectoryEntry
 pub fn entry(file: &[u8], index: u64) -> DirectoryEntry
     ensures { λ r. ⌜ r ≡ entryCase (now (file .entry)) index ⌝ }
 {
-    let mut offsets = [0u64; 1025];
+    let mut offsets = [0u64; segment::index::MOST];
     let found = crate::open_with(file, &mut offsets);
     match found {
         Opened::Refused(number) => DirectoryEntry::Refused(number),
@@ -46,7 +46,7 @@ pub fn entry(file: &[u8], index: u64) -> DirectoryEntry
                 return DirectoryEntry::NoEntry;
             }
             let i = index as usize;
-            read_entry(file, offsets[i] as usize, offset + 72 + 48 * i + 41)
+            read_entry(file, offsets[i] as usize, offset + manifest::fields::ENTRIES + manifest::fields::ENTRY_SIZE * i + manifest::fields::STATE)
         }
     }
 }

@@ -18,16 +18,16 @@ fn candidate(file: &[u8], offsets: &[u64], n: usize, i: usize, p: usize) -> bool
     requires { ⌜ Numbered (now file) p i (linkNo (now file) i) ⌝ }
     ensures { λ r. ⌜ r ≡ confirmed (take i (chain (now (file .entry)))) (linkNo (now (file .entry)) i) ⌝ }
 {
-    let len = octets::le::u64_at(file, p + 0x10) as usize;
-    let id = octets::le::u64_at(file, p + 0x08);
-    let kind = file[p + 0x05];
+    let len = octets::le::u64_at(file, p + segment::fields::LENGTH) as usize;
+    let id = octets::le::u64_at(file, p + segment::fields::ID);
+    let kind = file[p + segment::fields::KIND];
     confirm::is_confirmed(file, offsets, i, p, len, kind, id)
 }
 
 // Down from the last multiple of 64 that has 64 bytes after it, by 64. The offsets of the chain's first links rise, so a number k that
 // only goes down tells whether a link begins at a boundary; only there is more than that looked at.
 fn search(file: &[u8], offsets: &[u64], n: usize) -> Opened
-    requires { ⌜ (Stored (now file) (now offsets) n) × ((most ≤ length (now offsets)) × (length (now file) ≤ 16777216)) ⌝ }
+    requires { ⌜ (Stored (now file) (now offsets) n) × ((most ≤ length (now offsets)) × (length (now file) ≤ maxFile)) ⌝ }
     ensures { λ r. ⌜ r ≡ foundCase (now (file .entry)) (opened (now (file .entry))) ⌝ }
 {
     let mut k = n;
@@ -44,11 +44,11 @@ fn search(file: &[u8], offsets: &[u64], n: usize) -> Opened
             continue;
         }
         if candidate(file, offsets, n, i, p) {
-            let len = octets::le::u64_at(file, p + 0x10) as usize;
+            let len = octets::le::u64_at(file, p + segment::fields::LENGTH) as usize;
             return Opened::At {
                 offset: p,
                 end: p + 64 + octets::round_up(len),
-                id: octets::le::u64_at(file, p + 0x08),
+                id: octets::le::u64_at(file, p + segment::fields::ID),
                 count: i,
                 tried,
             };
@@ -76,6 +76,6 @@ pub fn open_with(file: &[u8], offsets: &mut [u64]) -> Opened
 pub fn open(file: &[u8]) -> Opened
     ensures { λ r. ⌜ r ≡ openedCase (now (file .entry)) ⌝ }
 {
-    let mut offsets = [0u64; 1025];
+    let mut offsets = [0u64; segment::index::MOST];
     open_with(file, &mut offsets)
 }

@@ -38,6 +38,19 @@ timestampIn h = leAt 8 h 0x18
 abbrev pub hashIn : List ℕ → List ℕ
 hashIn h = take 16 (drop 0x28 h)
 
+-- the same of a header at a place of a file
+abbrev pub kindAt : List ℕ → ℕ → ℕ
+kindAt f p = getD f (p + 0x05) 0
+
+abbrev pub flagsAt : List ℕ → ℕ → ℕ
+flagsAt f p = leAt 2 f (p + 0x06)
+
+abbrev pub idAt : List ℕ → ℕ → ℕ
+idAt f p = leAt 8 f (p + 0x08)
+
+abbrev pub lengthAt : List ℕ → ℕ → ℕ
+lengthAt f p = leAt 8 f (p + 0x10)
+
 -- 'type 0x01 to 0x0C or 0xF0 to 0xFF'
 unfoldable pub typeHeld : ℕ → Bool
 typeHeld t = (leb 0x01 t && leb t 0x0C) || (leb 0xF0 t && leb t 0xFF)

@@ -13,23 +13,23 @@ pub fn header_sound(h: &[u8], first: bool, prev: u64) -> bool
     if !octets::same(&h[..4], &crate::MAGIC) {
         return false;
     }
-    if h[0x04] != 1 {
+    if h[crate::fields::VERSION] != 1 {
         return false;
     }
-    if !crate::kind_held(h[0x05]) {
+    if !crate::kind_held(h[crate::fields::KIND]) {
         return false;
     }
-    if !crate::flags_held(octets::le::u16_at(h, 0x06)) {
+    if !crate::flags_held(octets::le::u16_at(h, crate::fields::FLAGS)) {
         return false;
     }
-    if h[0x20] != 0 {
+    if h[crate::fields::CHECKSUM_ALGO] != 0 {
         return false;
     }
-    if !octets::is_zero(&h[0x21..0x28]) {
+    if !octets::is_zero(&h[crate::fields::RESERVED..crate::fields::HASH]) {
         return false;
     }
-    if !octets::is_zero(&h[0x38..0x40]) {
+    if !octets::is_zero(&h[crate::fields::UNCOMPRESSED..crate::fields::HEADER_SIZE]) {
         return false;
     }
-    octets::numbers::follows(first, prev, octets::le::u64_at(h, 0x08))
+    octets::numbers::follows(first, prev, octets::le::u64_at(h, crate::fields::ID))
 }

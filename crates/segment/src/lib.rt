@@ -1,5 +1,6 @@
 // Segments of the file: the types and flags that a header may have, the content hash, and whether a link is whole.
 pub mod chain;
+pub mod fields;
 pub mod header;
 pub mod index;
 pub mod link;
@@ -62,7 +63,7 @@ pub fn is_whole(file: &[u8], at: usize, len: usize) -> bool
     let body = at + 64;
     let end = body + len;
     let hash = content_hash(&file[body..end]);
-    let from = at + 0x28;
-    let to = at + 0x38;
+    let from = at + crate::fields::HASH;
+    let to = at + crate::fields::UNCOMPRESSED;
     octets::same(&file[from..to], &hash)
 }

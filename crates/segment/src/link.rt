@@ -19,7 +19,7 @@ pub fn link_at(file: &[u8], at: usize, first: bool, prev: u64) -> Step
     let room = left - 64;
     let body = at + 64;
     let head = &file[at..body];
-    let long = octets::le::u64_at(head, 0x10);
+    let long = octets::le::u64_at(head, crate::fields::LENGTH);
     if long > room as u64 {
         return Step::Stop;
     }
@@ -38,9 +38,9 @@ pub fn link_at(file: &[u8], at: usize, first: bool, prev: u64) -> Step
     }
     Step::Sound {
         end,
-        id: octets::le::u64_at(head, 0x08),
+        id: octets::le::u64_at(head, crate::fields::ID),
         length,
-        kind: head[0x05],
-        flags: octets::le::u16_at(head, 0x06),
+        kind: head[crate::fields::KIND],
+        flags: octets::le::u16_at(head, crate::fields::FLAGS),
     }
 }

@@ -12,13 +12,13 @@ fn header_of(kind: u8, flags: u16, id: u64, timestamp: u64, len: usize, hash: [u
 {
     let mut h = [0u8; 64];
     octets::copy(&mut h, &crate::MAGIC);
-    h[0x04] = 1;
-    h[0x05] = kind;
-    octets::le::put(&mut h, 0x06, 2, flags as u64);
-    octets::le::put(&mut h, 0x08, 8, id);
-    octets::le::put(&mut h, 0x10, 8, len as u64);
-    octets::le::put(&mut h, 0x18, 8, timestamp);
-    octets::copy(&mut h[0x28..], &hash);
+    h[crate::fields::VERSION] = 1;
+    h[crate::fields::KIND] = kind;
+    octets::le::put(&mut h, crate::fields::FLAGS, 2, flags as u64);
+    octets::le::put(&mut h, crate::fields::ID, 8, id);
+    octets::le::put(&mut h, crate::fields::LENGTH, 8, len as u64);
+    octets::le::put(&mut h, crate::fields::TIMESTAMP, 8, timestamp);
+    octets::copy(&mut h[crate::fields::HASH..], &hash);
     h
 }
 

@@ -4,6 +4,7 @@ ghost use Prim.Native.Nat.{_+_, _*_, _≤_, _^_};
 ghost use lib.ListN.{length};
 ghost use Rattle.vecseg.specs.Payload.{filled, blockOf};
 ghost use Rattle.vec_read.specs.block.Block.{blockAnswer, lineWith};
+ghost use Rattle.answers.specs.limits.Limits.{maxDim, maxVectors};
 use answers::Wrote;
 
 // What the check of a block answers: how many bytes it takes with its padding, or the number of a refusal.
@@ -26,7 +27,7 @@ pub fn is_filled(s: &[u8], at: usize) -> bool
 
 // The block at the front of what is left of a payload. Its ids go to a list of our own; the check itself keeps none of them.
 pub fn check_block(s: &[u8], count: usize, dim: usize, dtype: u8, own: &mut [u64]) -> Block
-    requires { ⌜ (1 ≤ count) × ((count ≤ 4096) × ((count ≤ length (now own)) × (dim ≤ 1024))) ⌝ }
+    requires { ⌜ (1 ≤ count) × ((count ≤ maxVectors) × ((count ≤ length (now own)) × (dim ≤ maxDim))) ⌝ }
     ensures { λ r. ⌜ r ≡ blockAnswer (blockOf (lineWith count dim dtype) (now (s .entry))) ⌝ }
 {
     let columns = count * dim * crate::width::width_of(dtype as u64);

@@ -3,11 +3,12 @@ ghost use mathlib.Core.Path.{_≡_};
 ghost use Prim.Native.Nat.{_+_, _*_, _≤_};
 ghost use lib.ListN.{length, drop};
 ghost use Rattle.vecseg.specs.Payload.{linesBad, blocksBad, checkOf};
+ghost use Rattle.answers.specs.limits.Limits.{maxVectors};
 use crate::block::Block;
 
 // The blocks of a payload whose directory is good, from start on; each is handed over as the part of the payload from its place.
 fn check_blocks(s: &[u8], blocks: usize, start: usize, own: &mut [u64]) -> u32
-    requires { ⌜ (4 + 12 * blocks ≤ length (now s)) × ((start ≤ length (now s)) × (4096 ≤ length (now own))) ⌝ }
+    requires { ⌜ (4 + 12 * blocks ≤ length (now s)) × ((start ≤ length (now s)) × (maxVectors ≤ length (now own))) ⌝ }
     requires { ⌜ linesBad blocks (drop 4 (now s)) ≡ 0 ⌝ }
     ensures { λ r. ⌜ r ≡ blocksBad blocks start (drop 4 (now (s .entry))) (now (s .entry)) ⌝ }
 {
@@ -57,6 +58,6 @@ pub fn check(s: &[u8]) -> u32
     if !crate::block::is_filled(s, end) {
         return 5;
     }
-    let mut own = [0u64; 4096];
+    let mut own = [0u64; answers::limits::MAX_VECTORS];
     check_blocks(s, blocks, octets::round_up(end), &mut own)
 }

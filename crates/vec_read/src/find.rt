@@ -6,6 +6,7 @@ ghost use Rattle.vecseg.specs.Payload.{checkOf};
 ghost use Rattle.octets.specs.numbers.Numbers.{indexOf, indexAnswer};
 ghost use Rattle.vecseg.specs.Find.{findIn};
 ghost use Rattle.vec_read.specs.find.Found.{foundOf};
+ghost use Rattle.answers.specs.limits.Limits.{maxVectors};
 use answers::Wrote;
 use octets::numbers::Index;
 
@@ -23,7 +24,7 @@ pub enum Found {
 
 // The search with a list of our own for the ids of a block.
 pub fn find_with(s: &[u8], id: u64, own: &mut [u64]) -> Found
-    requires { ⌜ (checkOf (now s) ≡ 0) × (4096 ≤ length (now own)) ⌝ }
+    requires { ⌜ (checkOf (now s) ≡ 0) × (maxVectors ≤ length (now own)) ⌝ }
     ensures { λ r. ⌜ r ≡ foundOf (findIn (now (s .entry)) id) ⌝ }
 {
     let mut j = octets::le::u32_at(s, 0) as usize;
@@ -64,6 +65,6 @@ pub fn find(s: &[u8], id: u64) -> Found
     requires { ⌜ checkOf (now s) ≡ 0 ⌝ }
     ensures { λ r. ⌜ r ≡ foundOf (findIn (now (s .entry)) id) ⌝ }
 {
-    let mut own = [0u64; 4096];
+    let mut own = [0u64; answers::limits::MAX_VECTORS];
     find_with(s, id, &mut own)
 }

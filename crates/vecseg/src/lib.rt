@@ -1,5 +1,8 @@
 // VEC_SEG payloads: definitions and laws (specs/), and the types of what is read out of one.
 
+// The type of a VEC_SEG.
+pub const KIND: u8 = 0x01;
+
 // What reading a vector answers: dim, dtype and the length written, or the number of a refusal.
 pub enum Vector {
     Read {

@@ -19,7 +19,7 @@ use Rattle.segment.specs.chain.Chain.{Found}
 use Rattle.segment.specs.Header.{Link}
 use Rattle.segment.specs.Written.{segment}
 use Rattle.manifest.specs.Sized.{recordBy}
-use Rattle.manifest.specs.Payload.{manifestKind, manifestPayload, payloadLength}
+use Rattle.manifest.specs.Payload.{manifestKind, manifestPayload, payloadLength, entriesEnd}
 use Rattle.batch.specs.Form.{Body}
 use Rattle.appending.specs.Append.{keptLinks, startOf, nextId, bodyBytes, bodiesEnd, manifestAt, manifestId, newCount, newEnd, newLinks, Check, checked, appendedAnswer}
 use Rattle.appending.specs.declared.Appended.the-variants.{At, Refused}
@@ -133,15 +133,15 @@ module _ (o : Option (Found Link)) (bs : List Body) (start kept m next : ℕ) (s
   unfolding manifestAt
   at-number at e = e ∙ ap (λ (x : ℕ). bodiesEnd x bs) (sym s)
 
-  pub end-number : (at r r′ : ℕ) → at ≡ bodiesEnd start bs → r ≡ round64 (8 + 48 * (kept + m)) → r′ ≡ round64 (r + 4096) → at + 64 + r′ ≡ newEnd o bs
+  pub end-number : (at r r′ : ℕ) → at ≡ bodiesEnd start bs → r ≡ round64 (entriesEnd (kept + m)) → r′ ≡ round64 (r + 4096) → at + 64 + r′ ≡ newEnd o bs
   unfolding newEnd payloadLength recordBy
   end-number at r r′ e p q =
       let c = count-number in
       let a = at-number at e in
-      let x : r′ ≡ round64 (round64 (8 + 48 * newCount o bs) + 4096) = q ∙ ap (λ (y : ℕ). round64 (y + 4096)) (p ∙ ap (λ (y : ℕ). round64 (8 + 48 * y)) c) in
+      let x : r′ ≡ round64 (round64 (entriesEnd (newCount o bs)) + 4096) = q ∙ ap (λ (y : ℕ). round64 (y + 4096)) (p ∙ ap (λ (y : ℕ). round64 (entriesEnd y)) c) in
       omega arith
 
 -- the manifest's payload, rounded up, as the code has it
-pub payload-round : (c r r′ : ℕ) → r ≡ round64 (8 + 48 * c) → r′ ≡ round64 (r + 4096) → r′ ≡ round64 (payloadLength c)
+pub payload-round : (c r r′ : ℕ) → r ≡ round64 (entriesEnd c) → r′ ≡ round64 (r + 4096) → r′ ≡ round64 (payloadLength c)
 unfolding payloadLength recordBy
 payload-round c r r′ p q = q ∙ ap (λ (y : ℕ). round64 (y + 4096)) p

@@ -18,8 +18,9 @@ use Rattle.octets.specs.le.Laws.{length-leBytes}
 use Rattle.crc32c.specs.Crc.{crcOf}
 use Rattle.manifest.specs.Sized.{entriesOf}
 use Rattle.manifest.specs.SizedLaws.{entriesOf-more}
-use Rattle.manifest.specs.Payload.{entrySize, recordEnd, payloadLength, rootBytes, root}
+use Rattle.manifest.specs.Payload.{entrySize, recordEnd, payloadLength, rootBytes, root, entriesEnd}
 use Rattle.manifest.specs.At.{Inside, entryAt, entriesAt, recordHead, fill, payloadAt, length-entriesAt, length-recordHead, length-fill, length-rootBytes, length-root, record-ge}
+use Rattle.segment.specs.Header.{kindAt}
 
 -- ---- pieces
 
@@ -46,7 +47,7 @@ cleared buf ys from to h k p =
 -- ---- an entry, field by field
 
 pub entry-laid : (buf f b₁ b₂ b₃ b₄ b₅ b₆ b₇ : List ℕ) (at o state : ℕ) → at + 48 ≤ length buf → o + 64 ≤ length f → b₁ ≡ over buf at (leBytes 8 o)
-    → b₂ ≡ over b₁ (at + 8) (take 16 (drop (o + 0x08) f)) → b₃ ≡ over b₂ (at + 24) (take 16 (drop (o + 0x28) f)) → b₄ ≡ over b₃ (at + 40) (getD f (o + 0x05) 0 ∷ [])
+    → b₂ ≡ over b₁ (at + 8) (take 16 (drop (o + 0x08) f)) → b₃ ≡ over b₂ (at + 24) (take 16 (drop (o + 0x28) f)) → b₄ ≡ over b₃ (at + 40) (kindAt f o ∷ [])
     → b₅ ≡ over b₄ (at + 41) (state ∷ []) → b₆ ≡ over b₅ (at + 42) (take 2 (drop (o + 0x06) f)) → b₇ ≡ over b₆ (at + 44) (leBytes 4 0) → b₇ ≡ over buf at (entryAt f o state)
 unfolding entryAt
 entry-laid buf f b₁ b₂ b₃ b₄ b₅ b₆ b₇ at o state h k p₁ p₂ p₃ p₄ p₅ p₆ p₇ =
@@ -58,11 +59,11 @@ entry-laid buf f b₁ b₂ b₃ b₄ b₅ b₆ b₇ at o state h k p₁ p₂ p�
     let n₆ : length flags ≡ 2 = length-take-le 2 (drop (o + 0x06) f) (omega (arith, length-drop (o + 0x06) f)) in
     let q₂ = p₂ ∙ over-then buf b₁ at (leBytes 8 o) ids 8 p₁ (length-leBytes 8 o) (omega arith) in
     let q₃ = p₃ ∙ over-then buf b₂ at (leBytes 8 o ++ ids) hash 24 q₂ (simp (length-append, length-leBytes, n₂)) (omega arith) in
-    let q₄ = p₄ ∙ over-then buf b₃ at ((leBytes 8 o ++ ids) ++ hash) (getD f (o + 0x05) 0 ∷ []) 40 q₃ (simp (length-append, length-leBytes, n₂, n₃)) (omega arith) in
-    let q₅ = p₅ ∙ over-then buf b₄ at (((leBytes 8 o ++ ids) ++ hash) ++ (getD f (o + 0x05) 0 ∷ [])) (state ∷ []) 41 q₄ (simp (length-append, length-leBytes, n₂, n₃)) (omega arith) in
-    let q₆ = p₆ ∙ over-then buf b₅ at ((((leBytes 8 o ++ ids) ++ hash) ++ (getD f (o + 0x05) 0 ∷ [])) ++ (state ∷ [])) flags 42 q₅
+    let q₄ = p₄ ∙ over-then buf b₃ at ((leBytes 8 o ++ ids) ++ hash) (kindAt f o ∷ []) 40 q₃ (simp (length-append, length-leBytes, n₂, n₃)) (omega arith) in
+    let q₅ = p₅ ∙ over-then buf b₄ at (((leBytes 8 o ++ ids) ++ hash) ++ (kindAt f o ∷ [])) (state ∷ []) 41 q₄ (simp (length-append, length-leBytes, n₂, n₃)) (omega arith) in
+    let q₆ = p₆ ∙ over-then buf b₅ at ((((leBytes 8 o ++ ids) ++ hash) ++ (kindAt f o ∷ [])) ++ (state ∷ [])) flags 42 q₅
     (simp (length-append, length-leBytes, n₂, n₃)) (omega arith) in
-    let q₇ = p₇ ∙ over-then buf b₆ at (((((leBytes 8 o ++ ids) ++ hash) ++ (getD f (o + 0x05) 0 ∷ [])) ++ (state ∷ [])) ++ flags) (leBytes 4 0) 44 q₆
+    let q₇ = p₇ ∙ over-then buf b₆ at (((((leBytes 8 o ++ ids) ++ hash) ++ (kindAt f o ∷ [])) ++ (state ∷ [])) ++ flags) (leBytes 4 0) 44 q₆
     (simp (length-append, length-leBytes, n₂, n₃, n₆)) (omega arith) in
     q₇ ∙ ap (over buf at) (simp append-assoc)
 
@@ -83,18 +84,18 @@ inside-take f os i h t j k =
     let e : getD (take i os) j 0 ≡ getD os j 0 = getD-take i os j 0 (omega arith) in
     rw e (t j (omega arith))
 
-pub entries-next : (buf₀ buf buf′ f os ss : List ℕ) (i : ℕ) → EntriesPut buf₀ buf f os ss i → i < length os → Inside f os → 8 + 48 * length os ≤ length buf₀
-    → buf′ ≡ over buf (8 + 48 * i) (entryAt f (getD os i 0) (getD ss i 0)) → length buf′ ≡ length buf → EntriesPut buf₀ buf′ f os ss (i + 1)
+pub entries-next : (buf₀ buf buf′ f os ss : List ℕ) (i : ℕ) → EntriesPut buf₀ buf f os ss i → i < length os → Inside f os → 8 + entrySize * length os ≤ length buf₀
+    → buf′ ≡ over buf (entriesEnd i) (entryAt f (getD os i 0) (getD ss i 0)) → length buf′ ≡ length buf → EntriesPut buf₀ buf′ f os ss (i + 1)
 entries-next buf₀ buf buf′ f os ss i st h t room p q =
-    let n : length (entriesAt f (take i os) ss) ≡ 48 * i =
-    length-entriesAt f (take i os) ss (inside-take f os i (omega arith) t) ∙ ap (λ (m : ℕ). 48 * m) (length-take-le i os (omega arith)) in
+    let n : length (entriesAt f (take i os) ss) ≡ entrySize * i =
+    length-entriesAt f (take i os) ss (inside-take f os i (omega arith) t) ∙ ap (λ (m : ℕ). entrySize * m) (length-take-le i os (omega arith)) in
     let long = st .long in
     record {
       few = omega arith;
       long = omega arith;
       laid =
           rw (add-one, entriesOf-more (entryAt f) os ss i 0 h)
-          (p ∙ over-then buf₀ buf 8 (entriesAt f (take i os) ss) (entryAt f (getD os i 0) (getD ss i 0)) (48 * i) (st .laid) n (omega arith));
+          (p ∙ over-then buf₀ buf 8 (entriesAt f (take i os) ss) (entryAt f (getD os i 0) (getD ss i 0)) (entrySize * i) (st .laid) n (omega arith));
     }
 
 pub entries-last : (buf₀ buf f os ss : List ℕ) (i : ℕ) → EntriesPut buf₀ buf f os ss i → length os ≤ i → buf ≡ over buf₀ 8 (entriesAt f os ss)
@@ -109,7 +110,7 @@ in-line : (a b c d e f g h : List ℕ) → ((((((a ++ b) ++ c) ++ d) ++ e) ++ f)
 in-line a b c d e f g h = simp append-assoc
 
 module _ (buf : List ℕ) (c offset id : ℕ) (room : 4096 ≤ length buf) where
-  pub fields-laid : (b₁ b₂ b₃ b₄ b₅ b₆ b₇ b₈ : List ℕ) (long end : ℕ) → long ≡ 8 + entrySize * c → end ≡ offset + 64 + round64 (payloadLength c)
+  pub fields-laid : (b₁ b₂ b₃ b₄ b₅ b₆ b₇ b₈ : List ℕ) (long end : ℕ) → long ≡ entriesEnd c → end ≡ offset + 64 + round64 (payloadLength c)
       → b₁ ≡ over buf 0 name → b₂ ≡ over b₁ 4 (leBytes 2 1) → b₃ ≡ over b₂ 6 (leBytes 2 c) → b₄ ≡ over b₃ 8 (leBytes 8 offset)
       → b₅ ≡ over b₄ 16 (leBytes 8 id) → b₆ ≡ over b₅ 24 (leBytes 8 long) → b₇ ≡ over b₆ 32 (leBytes 8 end) → b₈ ≡ over b₇ 40 (replicate (4092 - 40) 0)
       → b₈ ≡ over buf 0 (rootBytes c offset id)
@@ -129,7 +130,7 @@ module _ (buf : List ℕ) (c offset id : ℕ) (room : 4096 ≤ length buf) where
       let q₇ : b₇ ≡ over buf 0 x₇ = p₇ ∙ over-then buf b₆ 0 x₆ (leBytes 8 end) 32 q₆ (simp (length-append, length-leBytes)) (omega arith) in
       let q₈ : b₈ ≡ over buf 0 (x₇ ++ replicate (4092 - 40) 0) =
       p₈ ∙ over-then buf b₇ 0 x₇ (replicate (4092 - 40) 0) 40 q₇ (simp (length-append, length-leBytes)) (omega arith) in
-      q₈ ∙ rw (el, ee) (ap (over buf 0) (in-line name (leBytes 2 1) (leBytes 2 c) (leBytes 8 offset) (leBytes 8 id) (leBytes 8 (8 + entrySize * c)) (leBytes 8 (offset + 64 + round64 (payloadLength c))) (replicate (4092 - 40) 0)))
+      q₈ ∙ rw (el, ee) (ap (over buf 0) (in-line name (leBytes 2 1) (leBytes 2 c) (leBytes 8 offset) (leBytes 8 id) (leBytes 8 (entriesEnd c)) (leBytes 8 (offset + 64 + round64 (payloadLength c))) (replicate (4092 - 40) 0)))
 
   pub root-laid : (b₈ b₉ : List ℕ) (crc : ℕ) → b₈ ≡ over buf 0 (rootBytes c offset id) → crc ≡ crcOf (take 4092 b₈) → b₉ ≡ over b₈ 4092 (leBytes 4 crc)
       → b₉ ≡ over buf 0 (root c offset id)
@@ -169,7 +170,7 @@ module _ (buf f os ss : List ℕ) (offset id : ℕ) (t : Inside f os) (room : pa
       ∙ ap (over buf 0) (simp append-assoc)
 
   pub filled : (b₃ b₄ b₅ : List ℕ) (end : ℕ) → end ≡ recordEnd (length os) → b₃ ≡ over buf 0 (recordHead (length os)) → b₄ ≡ over b₃ 8 (entriesAt f os ss)
-      → b₅ ≡ over b₄ (8 + 48 * length os) (replicate (end - (8 + 48 * length os)) 0) → b₅ ≡ over buf 0 written
+      → b₅ ≡ over b₄ (8 + entrySize * length os) (replicate (end - (8 + entrySize * length os)) 0) → b₅ ≡ over buf 0 written
   unfolding fill
   filled b₃ b₄ b₅ end e p₃ p₄ p₅ =
       let r = room-record in
@@ -177,8 +178,8 @@ module _ (buf f os ss : List ℕ) (offset id : ℕ) (t : Inside f os) (room : pa
       let q₄ : b₄ ≡ over buf 0 (recordHead (length os) ++ entriesAt f os ss) =
       p₄ ∙ over-then buf b₃ 0 (recordHead (length os)) (entriesAt f os ss) 8 p₃ (length-recordHead (length os)) (omega arith) in
       p₅
-      ∙ ap (λ (k : ℕ). over b₄ (8 + 48 * length os) (replicate (k - (8 + 48 * length os)) 0)) e
-      ∙ (rw zero-add at (over-then buf b₄ 0 (recordHead (length os) ++ entriesAt f os ss) (fill (length os)) (8 + 48 * length os) q₄
+      ∙ ap (λ (k : ℕ). over b₄ (8 + entrySize * length os) (replicate (k - (8 + entrySize * length os)) 0)) e
+      ∙ (rw zero-add at (over-then buf b₄ 0 (recordHead (length os) ++ entriesAt f os ss) (fill (length os)) (8 + entrySize * length os) q₄
       (simp (length-append, length-recordHead, length-entriesAt f os ss t)) (omega arith)))
 
   pub payload-laid : (b₅ ys : List ℕ) (end : ℕ) → end ≡ recordEnd (length os) → b₅ ≡ over buf 0 written

@@ -10,6 +10,7 @@ use Rattle.answers.specs.limits.Limits.{maxEntries}
 use Rattle.segment.specs.Step.{wholeAt}
 use Rattle.manifest.specs.Payload.{manifestKind, statesIn}
 use Rattle.manifest.specs.At.{payloadAt}
+use Rattle.segment.specs.Header.{kindAt}
 
 -- 0 live, 1 retired; a manifest is never retired
 unfoldable pub stateOf : ℕ → ℕ → Bool
@@ -18,7 +19,7 @@ stateOf kind state = cond (eqb kind manifestKind) (eqb state 0) (leb state 1)
 unfoldable pub statesHeldAt : List ℕ → List ℕ → List ℕ → Bool
 statesHeldAt f [] ss = true
 statesHeldAt f (o ∷ os) [] = true
-statesHeldAt f (o ∷ os) (s ∷ ss) = stateOf (getD f (o + 0x05) 0) s && statesHeldAt f os ss
+statesHeldAt f (o ∷ os) (s ∷ ss) = stateOf (kindAt f o) s && statesHeldAt f os ss
 
 -- the payload of the link at a place, and the states that it says
 abbrev pub payloadIn : List ℕ → ℕ → ℕ → List ℕ

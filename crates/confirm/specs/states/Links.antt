@@ -11,7 +11,7 @@ use Rattle.octets.specs.le.Le.{Bytes}
 use Rattle.segment.specs.chain.Chain.{All}
 use Rattle.segment.specs.chain.Laws.{afters}
 use Rattle.segment.specs.chain.Walk.{walk-at}
-use Rattle.segment.specs.Header.{Link, start, reader, linkAt, whole}
+use Rattle.segment.specs.Header.{Link, start, reader, linkAt, whole, kindAt}
 use Rattle.segment.specs.Laws.{segment-format, linkFront, Lies, lies}
 use Rattle.segment.specs.Step.{wholeAt, whole-link}
 use Rattle.segment.specs.Chained.{offsetsOf, link-place}
@@ -22,7 +22,7 @@ use Rattle.manifest.specs.Lying.{Lying, lying-inside, payload-lying, chain-lyin
 use Rattle.confirm.specs.states.At.{stateOf, statesHeldAt, payloadIn, statesOf, verdict, confirmedAt}
 
 -- the type that stands in a link's header
-lying-kind : (f : List ℕ) (l : Link) → Lying f l → getD f (l .offset + 0x05) 0 ≡ l .kind
+lying-kind : (f : List ℕ) (l : Link) → Lying f l → kindAt f (l .offset) ≡ l .kind
 unfolding linkFront
 lying-kind f l h =
     let y : Lies (h .state) (drop (l .offset) f) l = lies (h .state) (drop (l .offset) f) l (h .reads) in

@@ -17,9 +17,10 @@ use Rattle.octets.specs.ZeroLaws.{same-length}
 use Rattle.segment.specs.Step.{wholeAt}
 use Rattle.manifest.specs.Sized.{recordBy, statesBy}
 use Rattle.manifest.specs.SizedLaws.{length-statesBy, statesBy-more}
-use Rattle.manifest.specs.Payload.{entrySize, statesIn, payloadLength}
+use Rattle.manifest.specs.Payload.{entrySize, statesIn, payloadLength, entriesEnd}
 use Rattle.manifest.specs.At.{Inside, payloadAt, length-payloadAt, record-ge}
 use Rattle.confirm.specs.states.At.{stateOf, statesHeldAt, payloadIn, statesOf, confirmedAt}
+use Rattle.segment.specs.Header.{kindAt}
 
 -- ---- the states, read off a payload
 
@@ -34,17 +35,17 @@ unfolding statesBy
 read-first s payload n = record { few = omega arith; long = refl; laid = sym (over-none s 0) }
 
 pub read-next : (s₀ s payload : List ℕ) (n i : ℕ) → StatesRead s₀ s payload n i → i < n → n ≤ length s₀
-    → StatesRead s₀ (set s i (getD payload (8 + 48 * i + 41) 0)) payload n (i + 1)
+    → StatesRead s₀ (set s i (getD payload (entriesEnd i + 41) 0)) payload n (i + 1)
 read-next s₀ s payload n i st h k =
-    let g : getD payload (8 + 48 * i + 41) 0 ≡ getD (drop 8 payload) (48 * i + 41) 0 =
-    ap (λ (j : ℕ). getD payload j 0) (omega arith) ∙ sym (getD-drop 8 payload (48 * i + 41) 0) in
+    let g : getD payload (entriesEnd i + 41) 0 ≡ getD (drop 8 payload) (entrySize * i + 41) 0 =
+    ap (λ (j : ℕ). getD payload j 0) (omega arith) ∙ sym (getD-drop 8 payload (entrySize * i + 41) 0) in
     record {
       few = omega arith;
-      long = length-set s i (getD payload (8 + 48 * i + 41) 0) ∙ st .long;
+      long = length-set s i (getD payload (entriesEnd i + 41) 0) ∙ st .long;
       laid =
           ap (set s i) g
           ∙ rw (add-one, statesBy-more entrySize i (drop 8 payload))
-          (over-front s₀ s (statesIn i (drop 8 payload)) i (getD (drop 8 payload) (48 * i + 41) 0) (st .laid) (length-statesBy entrySize i (drop 8 payload)) (omega arith));
+          (over-front s₀ s (statesIn i (drop 8 payload)) i (getD (drop 8 payload) (entrySize * i + 41) 0) (st .laid) (length-statesBy entrySize i (drop 8 payload)) (omega arith));
     }
 
 pub read-last : (s₀ s payload : List ℕ) (n i : ℕ) → StatesRead s₀ s payload n i → n ≤ i → s ≡ over s₀ 0 (statesIn n (drop 8 payload))
@@ -66,14 +67,14 @@ module _ (f os ss : List ℕ) (same : length ss ≡ length os) where
 
   module _ (i : ℕ) (st : HeldAt f os ss i) where
     turn : i < length os
-        → statesHeldAt f os ss ≡ stateOf (getD f (getD os i 0 + 0x05) 0) (getD ss i 0) && statesHeldAt f (drop (suc i) os) (drop (suc i) ss)
+        → statesHeldAt f os ss ≡ stateOf (kindAt f (getD os i 0)) (getD ss i 0) && statesHeldAt f (drop (suc i) os) (drop (suc i) ss)
     unfolding statesHeldAt
     turn h = st .rest ∙ rw (drop-cons os i 0 h, drop-cons ss i 0 (omega arith))
 
-    pub held-stop : i < length os → stateOf (getD f (getD os i 0 + 0x05) 0) (getD ss i 0) ≡ false → false ≡ statesHeldAt f os ss
+    pub held-stop : i < length os → stateOf (kindAt f (getD os i 0)) (getD ss i 0) ≡ false → false ≡ statesHeldAt f os ss
     held-stop h e = sym (turn h ∙ rw e)
 
-    pub held-next : i < length os → stateOf (getD f (getD os i 0 + 0x05) 0) (getD ss i 0) ≡ true → HeldAt f os ss (i + 1)
+    pub held-next : i < length os → stateOf (kindAt f (getD os i 0)) (getD ss i 0) ≡ true → HeldAt f os ss (i + 1)
     held-next h e = record { few = omega arith; rest = rw add-one (turn h ∙ rw e) }
 
     pub held-last : length os ≤ i → true ≡ statesHeldAt f os ss
@@ -143,7 +144,7 @@ payload-aligned c = omega arith
 
 module _ (f os : List ℕ) (at len : ℕ) where
   -- it has room for the entries
-  pub part-room : at + (64 + len) ≤ length f → len ≡ payloadLength (length os) → 8 + 48 * length os ≤ length (take (at + 64 + len - (at + 64)) (drop (at + 64) f))
+  pub part-room : at + (64 + len) ≤ length f → len ≡ payloadLength (length os) → 8 + entrySize * length os ≤ length (take (at + 64 + len - (at + 64)) (drop (at + 64) f))
   unfolding payloadLength
   part-room h e =
       let n : length (take (at + 64 + len - (at + 64)) (drop (at + 64) f)) ≡ len = ap length (part-is f at len) ∙ payload-length f os at len 0 h in

@@ -11,7 +11,7 @@ use borrow.Author.Tests.{eq-eqb, ne-eqb}
 use Rattle.octets.specs.le.Le.{leAt}
 use Rattle.octets.specs.text.Text.{ascii}
 use Rattle.octets.specs.text.Written.{Written, then}
-use Rattle.segment.specs.Header.{Link}
+use Rattle.segment.specs.Header.{Link, idAt, kindAt, lengthAt}
 use Rattle.segment.specs.Step.{wholeAt}
 use Rattle.segment.specs.index.Numbered.{Numbered}
 use Rattle.reading.specs.Listing.{column, checkWord, line, lineOf, stateWord, linesOf}
@@ -19,14 +19,14 @@ use Rattle.reading.specs.Listing.{column, checkWord, line, lineOf, stateWord, l
 -- the line of the segment whose header begins at p, as the file has its fields
 unfoldable pub lineAt : List ℕ → ℕ → List ℕ → List ℕ
 lineAt f p word =
-    line (leAt 8 f (p + 0x08)) (getD f (p + 0x05) 0) p (leAt 8 f (p + 0x10)) word (wholeAt f p (leAt 8 f (p + 0x10)))
+    line (idAt f p) (kindAt f p) p (lengthAt f p) word (wholeAt f p (lengthAt f p))
 
 pub line-at : (f : List ℕ) (p i : ℕ) (l : Link) (word : List ℕ) → Numbered f p i l → lineAt f p word ≡ lineOf l word
 unfolding lineAt lineOf
 line-at f p i l word n = rw (n .whole-is, n .id-is, n .kind-is, n .offset-is, n .length-is)
 
 -- its pieces, written one behind the other: two columns, two more, the word, the check
-module _ (f : List ℕ) (p : ℕ) (word : List ℕ) (id kind long : ℕ) (ok : Bool) (id-is : id ≡ leAt 8 f (p + 0x08)) (kind-is : kind ≡ getD f (p + 0x05) 0) (long-is : long ≡ leAt 8 f (p + 0x10)) (ok-is : ok ≡ wholeAt f p long) where
+module _ (f : List ℕ) (p : ℕ) (word : List ℕ) (id kind long : ℕ) (ok : Bool) (id-is : id ≡ idAt f p) (kind-is : kind ≡ kindAt f p) (long-is : long ≡ lengthAt f p) (ok-is : ok ≡ wholeAt f p long) where
   pieces : (column id ++ column kind) ++ ((column p ++ column long) ++ (word ++ checkWord ok)) ≡ lineAt f p word
   unfolding lineAt line
   pieces = rw (← long-is, ← ok-is, ← id-is, ← kind-is) (simp append-assoc)

@@ -25,6 +25,7 @@ use Rattle.opening.specs.Indexed.{ManifestAt, Indexed, opened-at, opened-end, o
 use Rattle.reading.specs.Listing.{maxListed, heading, refusedLine, endLine, listFound, listWith, listText}
 use Rattle.listing.specs.line.Lines.{lineAt, line-at}
 use Rattle.listing.specs.entries.Entries.{entryLines}
+use Rattle.segment.specs.Header.{lengthAt}
 
 -- opening answers this offset, end, number of entries and number of boundaries tried
 abbrev pub OpensAt : List ℕ → ℕ → ℕ → ℕ → ℕ → Type 0
@@ -39,7 +40,7 @@ module _ (f offsets : List ℕ) (offset end count t : ℕ) (b : Bytes f) (s : In
   m = opened-at f offset end (o .0) count t (o .1)
 
   -- the manifest's segment lies in the file, and its entries are few
-  pub list-room : (offset + (64 + leAt 8 f (offset + 0x10)) ≤ length f) × (count ≤ maxEntries)
+  pub list-room : (offset + (64 + lengthAt f offset) ≤ length f) × (count ≤ maxEntries)
   list-room = (manifest-part f offsets offset count b s long m .0, manifest-room f offsets offset count b s long m .1)
 
   tried-is : tried f (some (m .found)) ≡ t

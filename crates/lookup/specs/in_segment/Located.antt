@@ -12,7 +12,7 @@ use borrow.Author.Tests.{ne-eqb}
 use Rattle.octets.specs.le.Le.{leAt}
 use Rattle.answers.specs.limits.Limits.{maxFile}
 use Rattle.segment.specs.chain.Chain.{Found}
-use Rattle.segment.specs.Header.{Link, whole}
+use Rattle.segment.specs.Header.{Link, whole, kindAt, lengthAt}
 use Rattle.segment.specs.Step.{wholeAt}
 use Rattle.segment.specs.index.Offsets.{linkNo}
 use Rattle.segment.specs.index.Numbered.{Numbered}
@@ -28,6 +28,7 @@ use Rattle.reading.specs.LiveLaws.{orderOf, order-all, order-retired, order-oth
 use Rattle.reading.specs.Answers.{Hit, Held, Missing, Bad, hitOf, lookIn, orElse, searchIn, hitFound, hitIn}
 use Rattle.lookup.specs.declared.in_segment.Located.{Located}
 use Rattle.lookup.specs.declared.in_segment.Located.the-variants.{In, Nowhere, Refused}
+use Rattle.manifest.specs.Payload.{statePlace}
 
 unfoldable pub locatedOf : Hit → Located
 locatedOf (Held l p) = In (l .offset + 64) (length (l .payload)) (p .line .offset) (p .line .count) (p .line .dim) (p .line .dtype) (p .index)
@@ -100,7 +101,7 @@ same-hit l true false c o = refl
 same-hit l true true c none = refl
 same-hit l true true c (some p) = refl
 
-look-link : (f : List ℕ) (p i id : ℕ) (l : Link) → Numbered f p i l → lookAt f p (leAt 8 f (p + 0x10)) id ≡ locatedOf (lookIn id l)
+look-link : (f : List ℕ) (p i id : ℕ) (l : Link) → Numbered f p i l → lookAt f p (lengthAt f p) id ≡ locatedOf (lookIn id l)
 unfolding lookAt lookIn
 look-link f p i id l m =
     ap (λ (n : ℕ). lookAt f p n id) (sym (m .length-is))
@@ -155,14 +156,14 @@ module _ (f : List ℕ) (id offset count : ℕ) (m : ManifestAt f offset count) 
               (ap (searchIn id) (sym e) ∙ ap (λ (n : ℕ). searchIn id (orderOf (take n (r .before)) (states r))) (sym next) ∙ st .same r (m .opens));
         }
 
-    pub search-retired : (getD f (offset + 72 + 48 * j + 41) 0 ≡ 0 → ⊥) → SearchAt f id count j
+    pub search-retired : (getD f (statePlace offset j) 0 ≡ 0 → ⊥) → SearchAt f id count j
     search-retired n = on (order-retired (r .before) (states r) j inside (λ z. n (sym (a .state-is) ∙ z)))
 
-    pub search-other : (getD f (getD offsets j 0 + 0x05) 0 ≡ vecKind → ⊥) → SearchAt f id count j
+    pub search-other : (kindAt f (getD offsets j 0) ≡ vecKind → ⊥) → SearchAt f id count j
     search-other n =
         on (order-other (r .before) (states r) j inside (λ z. n (sym (a .numbered .kind-is) ∙ ap (λ (l : Link). l .kind) (sym (a .link-is)) ∙ z)))
 
-    module _ (live : getD f (offset + 72 + 48 * j + 41) 0 ≡ 0) (vec : getD f (getD offsets j 0 + 0x05) 0 ≡ vecKind) where
+    module _ (live : getD f (statePlace offset j) 0 ≡ 0) (vec : kindAt f (getD offsets j 0) ≡ vecKind) where
       here : searchIn id (orderOf (take (suc j) (r .before)) (states r)) ≡ orElse (lookIn id (linkNo f j)) (searchIn id (orderOf (take j (r .before)) (states r)))
       unfolding searchIn
       here =
@@ -172,10 +173,10 @@ module _ (f : List ℕ) (id offset count : ℕ) (m : ManifestAt f offset count) 
       whole-search : orElse (lookIn id (linkNo f j)) (searchIn id (orderOf (take j (r .before)) (states r))) ≡ searchIn id (searchOrder r)
       whole-search = sym here ∙ ap (λ (n : ℕ). searchIn id (orderOf (take n (r .before)) (states r))) (sym next) ∙ st .same r (m .opens)
 
-      looked : lookAt f (getD offsets j 0) (leAt 8 f (getD offsets j 0 + 0x10)) id ≡ locatedOf (lookIn id (linkNo f j))
+      looked : lookAt f (getD offsets j 0) (lengthAt f (getD offsets j 0)) id ≡ locatedOf (lookIn id (linkNo f j))
       looked = look-link f (getD offsets j 0) j id (linkNo f j) (a .numbered)
 
-      pub search-on : lookAt f (getD offsets j 0) (leAt 8 f (getD offsets j 0 + 0x10)) id ≡ Nowhere → SearchAt f id count j
+      pub search-on : lookAt f (getD offsets j 0) (lengthAt f (getD offsets j 0)) id ≡ Nowhere → SearchAt f id count j
       unfolding orElse locatedOf
       search-on e = go (lookIn id (linkNo f j)) refl (sym looked ∙ e)
         where
@@ -190,7 +191,7 @@ module _ (f : List ℕ) (id offset count : ℕ) (m : ManifestAt f offset count) 
                     (sym (ap (λ (h : Hit). orElse h (searchIn id (orderOf (take j (r .before)) (states r)))) q) ∙ whole-search);
               }
 
-      pub search-stop : (o : Located) → lookAt f (getD offsets j 0) (leAt 8 f (getD offsets j 0 + 0x10)) id ≡ o → (o ≡ Nowhere → ⊥) → o ≡ locatedOf (hitIn f id)
+      pub search-stop : (o : Located) → lookAt f (getD offsets j 0) (lengthAt f (getD offsets j 0)) id ≡ o → (o ≡ Nowhere → ⊥) → o ≡ locatedOf (hitIn f id)
       unfolding orElse locatedOf
       search-stop o e n = sym e ∙ looked ∙ ap locatedOf (go (lookIn id (linkNo f j)) refl ∙ whole-search ∙ sym hit-is)
         where

@@ -11,7 +11,7 @@ use lib.ListN.{length, drop, getD}
 use Rattle.octets.specs.le.Le.{leAt}
 use Rattle.answers.specs.limits.Limits.{maxFile}
 use Rattle.segment.specs.chain.Chain.{Found}
-use Rattle.segment.specs.Header.{Link, whole, noLink}
+use Rattle.segment.specs.Header.{Link, whole, noLink, idAt, lengthAt}
 use Rattle.segment.specs.Step.{wholeAt}
 use Rattle.segment.specs.index.Offsets.{linkNo}
 use Rattle.manifest.specs.Opening.{opened, states}
@@ -22,6 +22,7 @@ use Rattle.reading.specs.LiveLaws.{with-retired, with-other, with-here, with-no
 use Rattle.reading.specs.Answers.{Handed, NotHanded, partOf, partFound, partIn}
 use Rattle.reading.specs.declared.PayloadPlace.the-variants.{At, Refused}
 use Rattle.reading.specs.Part.{placeOf}
+use Rattle.manifest.specs.Payload.{statePlace}
 
 -- the first i entries are passed
 pub record FindAt (f : List ℕ) (id count i : ℕ) : Type 0 where
@@ -59,23 +60,23 @@ module _ (f : List ℕ) (id offset count : ℕ) (m : ManifestAt f offset count) 
               (ap (λ (n : ℕ). withId id (liveOf (drop n (r .before)) (drop n (states r)))) (add-one i) ∙ sym e ∙ st .same r (m .opens));
         }
 
-    id-is : getD (r .before) i noLink .id ≡ leAt 8 f (getD offsets i 0 + 0x08)
+    id-is : getD (r .before) i noLink .id ≡ idAt f (getD offsets i 0)
     id-is = ap (λ (l : Link). l .id) (a .link-is) ∙ a .numbered .id-is
 
-    pub find-other : (x : ℕ) → x ≡ leAt 8 f (getD offsets i 0 + 0x08) → (x ≡ id → ⊥) → FindAt f id count (i + 1)
+    pub find-other : (x : ℕ) → x ≡ idAt f (getD offsets i 0) → (x ≡ id → ⊥) → FindAt f id count (i + 1)
     find-other x e n = on (with-other (r .before) (states r) i inside id (λ q. n (e ∙ sym id-is ∙ q)))
 
-    pub find-retired : (getD f (offset + 72 + 48 * i + 41) 0 ≡ 0 → ⊥) → FindAt f id count (i + 1)
+    pub find-retired : (getD f (statePlace offset i) 0 ≡ 0 → ⊥) → FindAt f id count (i + 1)
     find-retired n = on (with-retired (r .before) (states r) i inside id (λ z. n (sym (a .state-is) ∙ z)))
 
-    module _ (x : ℕ) (e : x ≡ leAt 8 f (getD offsets i 0 + 0x08)) (q : x ≡ id) (z : getD f (offset + 72 + 48 * i + 41) 0 ≡ 0) where
+    module _ (x : ℕ) (e : x ≡ idAt f (getD offsets i 0)) (q : x ≡ id) (z : getD f (statePlace offset i) 0 ≡ 0) where
       here : partIn f id ≡ partOf (some (linkNo f i))
       here =
           part-is
           ∙ ap partOf (sym (st .same r (m .opens)) ∙ with-here (r .before) (states r) i inside id (a .state-is ∙ z) (id-is ∙ sym e ∙ q) ∙ ap some (a .link-is))
 
       -- the length that the code has read
-      module _ (n : ℕ) (n-is : n ≡ leAt 8 f (getD offsets i 0 + 0x10)) where
+      module _ (n : ℕ) (n-is : n ≡ lengthAt f (getD offsets i 0)) where
         whole-is : whole (linkNo f i) ≡ wholeAt f (getD offsets i 0) n
         whole-is = a .numbered .whole-is ∙ ap (wholeAt f (getD offsets i 0)) (a .numbered .length-is ∙ sym n-is)
 

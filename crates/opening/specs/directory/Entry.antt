@@ -12,11 +12,12 @@ use Rattle.manifest.specs.OpeningLaws.{at-long, at-within}
 use Rattle.manifest.specs.declared.DirectoryEntry.{DirectoryEntry}
 use Rattle.manifest.specs.declared.DirectoryEntry.the-variants.{Of, Refused}
 use Rattle.manifest.specs.Directory.{entryIn, entryCase}
+use Rattle.segment.specs.Header.{flagsAt, idAt, kindAt, lengthAt}
 
 -- the same off the file: the header of the link at p, and the state at s
 unfoldable pub entryAt : List ℕ → ℕ → ℕ → DirectoryEntry
 entryAt f p s =
-    Of p (leAt 8 f (p + 0x08)) (leAt 8 f (p + 0x10)) (leAt 8 f (p + 0x28)) (leAt 8 f (p + 0x30)) (getD f (p + 0x05) 0) (getD f s 0) (leAt 2 f (p + 0x06))
+    Of p (idAt f p) (lengthAt f p) (leAt 8 f (p + 0x28)) (leAt 8 f (p + 0x30)) (kindAt f p) (getD f s 0) (flagsAt f p)
 
 -- ---- the ways out
 

@@ -15,6 +15,7 @@ use Rattle.manifest.specs.declared.DirectoryEntry.the-variants.{NoEntry}
 use Rattle.opening.specs.Indexed.{ManifestAt, EntryAt}
 use Rattle.manifest.specs.Directory.{entryIn, entryOf, entryCase}
 use Rattle.opening.specs.directory.Entry.{entryAt, entry-within}
+use Rattle.manifest.specs.Payload.{statePlace}
 
 module _ (f : List ℕ) (offset count : ℕ) (m : ManifestAt f offset count) (i : ℕ) where
   -- above the count
@@ -31,7 +32,7 @@ module _ (f : List ℕ) (offset count : ℕ) (m : ManifestAt f offset count) (i 
         ∙ ap (λ (x : List ℕ). leOf (take 8 x)) (drop-drop k (getD offsets i 0 + 0x28) f)
         ∙ ap (leAt 8 f) e
 
-    pub entry-is : (o : DirectoryEntry) → o ≡ entryAt f (getD offsets i 0) (offset + 72 + 48 * i + 41) → o ≡ entryCase f i
+    pub entry-is : (o : DirectoryEntry) → o ≡ entryAt f (getD offsets i 0) (statePlace offset i) → o ≡ entryCase f i
     unfolding entryIn entryOf entryAt
     entry-is o e =
         let n = a .numbered in

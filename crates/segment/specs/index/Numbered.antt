@@ -14,7 +14,7 @@ use Rattle.octets.specs.le.Le.{leAt, leOf}
 use Rattle.segment.specs.chain.Laws.{afters, afters-append, sizes}
 use Rattle.segment.specs.chain.Walk.{walk-at}
 use Rattle.segment.specs.declared.Step.the-variants.{Sound}
-use Rattle.segment.specs.Header.{Link, State, start, reader, linkAt, size, after, whole, noLink}
+use Rattle.segment.specs.Header.{Link, State, start, reader, linkAt, size, after, whole, noLink, flagsAt, idAt, kindAt, lengthAt}
 use Rattle.segment.specs.Laws.{segment-format, linkFront, lies, afters-at}
 use Rattle.segment.specs.Step.{stateAt, stepOf, stepAt, wholeAt, whole-link}
 use Rattle.segment.specs.Chained.{chain}
@@ -28,11 +28,11 @@ pub record Numbered (f : List ℕ) (p i : ℕ) (l : Link) : Type 0 where
   pub reads : linkAt (afters reader start (take i (chain f))) (drop p f) ≡ some l
   pub link-is : l ≡ linkFront p (drop p f)
   pub offset-is : l .offset ≡ p
-  pub id-is : l .id ≡ leAt 8 f (p + 0x08)
-  pub kind-is : l .kind ≡ getD f (p + 0x05) 0
-  pub flags-is : l .flags ≡ leAt 2 f (p + 0x06)
+  pub id-is : l .id ≡ idAt f p
+  pub kind-is : l .kind ≡ kindAt f p
+  pub flags-is : l .flags ≡ flagsAt f p
   pub hash-is : l .hash ≡ take 16 (drop (p + 0x28) f)
-  pub length-is : length (l .payload) ≡ leAt 8 f (p + 0x10)
+  pub length-is : length (l .payload) ≡ lengthAt f p
   pub payload-is : l .payload ≡ take (length (l .payload)) (drop (p + 64) f)
   pub whole-is : whole l ≡ wholeAt f p (length (l .payload))
   pub room : p + (64 + length (l .payload)) ≤ length f
