@@ -40,7 +40,7 @@ impl Display for Doubt {
 }
 
 /// Payload length of a manifest with so many entries.
-fn payload_length(count: usize) -> usize {
+pub fn payload_length(count: usize) -> usize {
     (RECORD_HEAD + ENTRY * count).next_multiple_of(HEADER) + ROOT
 }
 

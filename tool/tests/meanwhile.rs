@@ -17,8 +17,8 @@ fn of_two_appends_at_once_one_is_turned_away() {
     let held = std::fs::File::open(&place.file).expect("it opens");
     held.lock().expect("it is locked");
     let ran = place.append(&["--time", "9"]);
-    let said = format!("rvf: {}: another append is at work on it; try again\n", place.file.display());
-    assert_eq!((ran.status, ran.stderr), (74, said));
+    let said = format!("rvf: {}: another append is at work on it; try again, or add --wait SECONDS\n", place.file.display());
+    assert_eq!((ran.status, ran.stderr), (75, said));
     assert!(bytes_of(&place.file) == sample("clean.rvf"));
     // Reading goes on meanwhile.
     assert_eq!(rvf(&["list", text(&place.file)]).status, 0);
@@ -35,7 +35,7 @@ fn many_appends_at_once() {
         let runs: Vec<_> = (0..8).map(|_| scope.spawn(|| place.append(&["--time", "9"]).status)).collect();
         runs.into_iter().map(|run| run.join().expect("no panic")).collect()
     });
-    assert!(statuses.iter().all(|status| [0, 74].contains(status)), "{statuses:?}");
+    assert!(statuses.iter().all(|status| [0, 75].contains(status)), "{statuses:?}");
     let accepted = statuses.iter().filter(|status| **status == 0).count();
     assert!(accepted >= 1);
     let states = states(accepted);

@@ -19,7 +19,7 @@ fn vectors_as_text() {
     let cases: [(&[u8], i32, &str); 4] = [
         (b"", 66, "standard input: has no vectors"),
         (b"1 2\n1 3\n", 66, "standard input: line 2: id 1 stands on line 1 already"),
-        (&[b"1".as_slice(), &b" 2".repeat(1_025)].concat(), 14, "standard input: refused 14: "),
+        (&[b"1".as_slice(), &b" 2".repeat(1_025), b"\n"].concat(), 14, "standard input: refused 14: "),
         (&(0..4_097).flat_map(|id| format!("{id} 1\n").into_bytes()).collect::<Vec<u8>>(), 14, "4,096"),
     ];
     for (input, status, said) in cases {

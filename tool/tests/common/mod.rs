@@ -6,6 +6,7 @@
 
 pub mod cases;
 pub mod json;
+pub mod stores;
 
 use rvf::{Body, Component, Dtype, Encoding, Entry, Refusal, Vector, Vectors};
 use std::ffi::OsStr;
@@ -162,6 +163,12 @@ pub struct Answers {
     payloads: Vec<Result<(usize, Vec<u8>), Refusal>>,
     vectors: Vec<Result<Vector, Refusal>>,
     components: Vec<Result<Component, Refusal>>,
+}
+
+impl Answers {
+    pub fn vectors(&self) -> &[Result<Vector, Refusal>] {
+        &self.vectors
+    }
 }
 
 pub fn answers(file: &[u8]) -> Answers {

@@ -1,0 +1,105 @@
+//! Refusals of the reading calls: which segment or id, where, and what to do next.
+
+use crate::absence::Absence;
+use crate::check::{broken, damage};
+use crate::failure::{Failure, Refused};
+use crate::files::too_long;
+use crate::lost::loss;
+use crate::quote::quoted;
+use crate::walk::{type_name, walk, Link};
+use rvf::{Entry, Refusal};
+use std::path::Path;
+
+/// What a reading call was told to find.
+#[derive(Clone, Copy, Debug)]
+pub enum Asked {
+    Directory,
+    Vector(u64),
+    Component { id: u64, index: u64 },
+    Segment(u64),
+}
+
+pub fn reading(path: &Path, file: &[u8], asked: Asked, refusal: Refusal) -> Failure {
+    let refused = Refused::of(path, refusal);
+    match (refusal, asked) {
+        (Refusal::FileTooLong, _) => too_long(path, file.len() as u64),
+        (Refusal::NoManifest, _) => absent(path, file, refused),
+        (Refusal::NotLive, Asked::Segment(id)) => not_live(path, file, id, refused),
+        (Refusal::NoVector, Asked::Vector(id) | Asked::Component { id, .. }) => no_vector(path, file, id, asked, refused),
+        _ => match bad_segment(file, asked, refusal) {
+            Some(link) => refused.why(bad(&link, refusal)).next(bad_next(path, &link)),
+            None => refused.next(format!("'rvf check {}' says what is wrong, and where", quoted(path))),
+        },
+    }
+    .into()
+}
+
+/// Why a file has no manifest.
+pub fn absent(path: &Path, file: &[u8], refused: Refused) -> Refused {
+    let loss = loss(file).ok().flatten();
+    let absence = Absence::of(file, &walk(file), loss.as_ref());
+    refused.why(absence.what()).next(absence.next(path))
+}
+
+fn not_live(path: &Path, file: &[u8], id: u64, refused: Refused) -> Refused {
+    let path = quoted(path);
+    let manifest = rvf::open(file).ok().map(|manifest| manifest.id);
+    let why = match entry(file, id) {
+        Some(entry) => format!("segment {id} ({}, {} bytes) is retired", type_name(entry.kind), entry.length),
+        None if manifest == Some(id) => format!("segment {id} is the file's own manifest, which is no entry of its directory"),
+        None => format!("no segment has the id {id}"),
+    };
+    let listed = format!("'rvf list {path}' shows the segments and their states");
+    let next = if rvf::vector(file, id).is_ok() { format!("'rvf get {path} {id}' gets the vector {id}; {listed}") } else { listed };
+    refused.why(why).next(next)
+}
+
+fn no_vector(path: &Path, file: &[u8], id: u64, asked: Asked, refused: Refused) -> Refused {
+    let path = quoted(path);
+    if let (Asked::Component { index, .. }, Ok(vector)) = (asked, rvf::vector(file, id)) {
+        let dim = vector.components().count();
+        let why = format!("vector {id} has {dim} components, 0 to {}; {index} is none of them", dim - 1);
+        return Refused { meaning: "the vector has no such component", ..refused }.why(why).next("name one that it has");
+    }
+    let why = format!("no live segment of vectors holds the id {id}");
+    let refused = Refused { meaning: "there is no such vector", ..refused };
+    match entry(file, id) {
+        Some(entry) => {
+            let kind = type_name(entry.kind);
+            refused.why(format!("{why}; a segment has it, and a segment is not a vector: {kind}, {} bytes", entry.length))
+        }
+        None => refused.why(why),
+    }
+    .next(format!("vectors stand in segments of type 1 (VEC), which 'rvf list {path}' shows; 'rvf get {path} --segment ID' gets one"))
+}
+
+/// The entry of the directory with a segment's id.
+pub fn entry(file: &[u8], id: u64) -> Option<Entry> {
+    rvf::entries(file).ok()?.into_iter().find(|entry| entry.id == id)
+}
+
+/// The segment that a refusal by 4 to 7 is about: the one that was to be read, or the first
+/// bad one in the order in which vectors are searched.
+fn bad_segment(file: &[u8], asked: Asked, refusal: Refusal) -> Option<Link> {
+    let entries = rvf::entries(file).ok()?;
+    let links = walk(file).links;
+    let mut newest_first = links.into_iter().zip(entries).rev();
+    let bad = newest_first.find(|(link, entry)| match asked {
+        Asked::Segment(id) => entry.id == id,
+        _ => !entry.retired && link.kind == rvf::VEC && damage(file, link) == Some(refusal),
+    });
+    bad.map(|(link, _)| link)
+}
+
+fn bad(link: &Link, refusal: Refusal) -> String {
+    format!("segment {} ({}) at byte {}: {}", link.id, type_name(link.kind), link.offset, broken(refusal))
+}
+
+/// First the way that brings the present position back, then the one that brings an older.
+fn bad_next(path: &Path, link: &Link) -> String {
+    let (file, id) = (quoted(path), link.id);
+    match link.kind {
+        rvf::MANIFEST => format!("an older manifest is read by nothing else; 'rvf check {file}' says more"),
+        _ => format!("append the batch again: 'rvf append {file} BATCH --retire {id}'; 'rvf check {file}' says more"),
+    }
+}
