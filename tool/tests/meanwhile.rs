@@ -27,6 +27,27 @@ fn of_two_appends_at_once_one_is_turned_away() {
     assert_eq!(place.append(&["--time", "9"]).status, 0);
 }
 
+/// With `--wait` the second waits for the first, and no longer than it is told to.
+#[test]
+fn the_lock_is_waited_for() {
+    let place = place("waiting");
+    let held = std::fs::File::open(&place.file).expect("it opens");
+    held.lock().expect("it is locked");
+    let start = Instant::now();
+    assert_eq!(place.append(&["--wait=1"]).status, 75);
+    assert!(start.elapsed() >= Duration::from_secs(1));
+    let ran = std::thread::scope(|scope| {
+        let waiting = scope.spawn(|| place.append(&["--wait", "30", "--time", "9"]));
+        std::thread::sleep(Duration::from_millis(300));
+        assert!(bytes_of(&place.file) == sample("clean.rvf"));
+        held.unlock().expect("it was locked");
+        waiting.join().expect("no panic")
+    });
+    assert_eq!(ran.status, 0, "{}", ran.stderr);
+    assert!(start.elapsed() < Duration::from_secs(20));
+    assert!(bytes_of(&place.file) == states(1)[1]);
+}
+
 /// Many appends at once: each is accepted or turned away, and the file holds the accepted.
 #[test]
 fn many_appends_at_once() {

@@ -207,7 +207,7 @@ fn a_closed_output_is_no_failure() {
     assert_eq!((child.wait().expect("it ends").code(), said.as_str()), (Some(0), ""));
 }
 
-/// An output that takes nothing more is a failure.
+/// An output that takes nothing more is a failure with a status of its own: the work is done.
 #[cfg(target_os = "linux")]
 #[test]
 fn a_full_output_is_a_failure() {
@@ -215,4 +215,14 @@ fn a_full_output_is_a_failure() {
     let ran = program().arg("help").stdout(full).output().expect("the program runs");
     assert_eq!(ran.status.code(), Some(73));
     assert!(String::from_utf8_lossy(&ran.stderr).starts_with("rvf: standard output: "));
+    // An append is done all the same, and a refusal stays one.
+    let place = common::Place::new("full-output", &sample("clean.rvf"), &common::small_batch());
+    let run = |words: &[&str]| {
+        let full = File::options().write(true).open("/dev/full").expect("the device is there");
+        program().args(words).stdout(full).output().expect("the program runs").status.code()
+    };
+    let (file, batch) = (common::text(&place.file), common::text(&place.batch));
+    assert_eq!(run(&["append", file, batch, "--time", "9"]), Some(73));
+    assert!(common::bytes_of(&place.file) == common::appended(&sample("clean.rvf"), &common::small_batch(), &[], 9).expect("accepted"));
+    assert_eq!(run(&["get", file, "99", "--json"]), Some(8));
 }
