@@ -104,7 +104,7 @@ fn exists(path: &Path) -> Result<bool, Failure> {
     }
 }
 
-fn now() -> u64 {
+pub fn now() -> u64 {
     let since = SystemTime::now().duration_since(UNIX_EPOCH).unwrap_or_default();
     since.as_nanos().try_into().unwrap_or(u64::MAX)
 }

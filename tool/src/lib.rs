@@ -24,12 +24,15 @@ pub mod list;
 pub mod lock;
 pub mod lost;
 pub mod manifests;
+pub mod pieces;
 pub mod plan;
 pub mod quote;
+pub mod rebuild;
 pub mod refusals;
 pub mod report;
 pub mod room;
 pub mod rounding;
+pub mod salvage;
 pub mod text;
 pub mod walk;
 pub mod words;
@@ -97,7 +100,7 @@ fn perform(command: &Command, json: bool, stdin: &mut dyn Read) -> Result<Answer
         Command::Check(files) => each(files, json, |file| report::run(file, json)),
         Command::Get(request) => get::run(request, json),
         Command::Append(request) => append::run(request, json, stdin),
-        Command::Salvage { .. } => todo!(),
+        Command::Salvage { file, to } => salvage::run(file, to, json),
     }
 }
 

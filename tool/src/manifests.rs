@@ -3,9 +3,9 @@
 use crate::walk::{le16, le32, le64, Link, HEADER};
 use std::fmt::{self, Display, Formatter};
 
-const ENTRY: usize = 48;
-const RECORD_HEAD: usize = 8;
-const ROOT: usize = 4_096;
+pub const ENTRY: usize = 48;
+pub const RECORD_HEAD: usize = 8;
+pub const ROOT: usize = 4_096;
 /// The most entries that a directory has.
 const ENTRIES: usize = 1_024;
 
@@ -36,6 +36,21 @@ impl Display for Doubt {
             Doubt::Root { field } => write!(out, "its root has a wrong {field}"),
             Doubt::RootChecksum => write!(out, "its root's checksum differs"),
         }
+    }
+}
+
+/// Whether a segment is a manifest that is whole in itself: its hash is right, and so is its
+/// root. It need not be confirmed: what stands before it may be damaged.
+pub fn whole_alone(file: &[u8], link: &Link) -> bool {
+    let room = link.kind == rvf::MANIFEST && link.length >= payload_length(0) && link.whole(file);
+    room && {
+        let (contents, root) = link.payload(file).split_at(link.length - ROOT);
+        let count = usize::from(le16(root, 6));
+        payload_length(count) == link.length
+            && judge_root(root, link, count).is_ok()
+            && le16(contents, 0) == 1
+            && le32(contents, 2) as usize == ENTRY * count
+            && le32(root, ROOT - 4) == rvf::crc32c(&root[..ROOT - 4])
     }
 }
 

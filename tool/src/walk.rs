@@ -133,6 +133,16 @@ pub fn walk(file: &[u8]) -> Walk {
 
 /// The segment at a place; `before` is the id of the one before it, if there is one.
 fn link_at(file: &[u8], at: usize, before: Option<u64>) -> Result<Link, Stop> {
+    let link = segment_at(file, at, before)?;
+    let padding = at + HEADER + link.length;
+    match file[padding..link.end].iter().position(|&byte| byte != 0) {
+        Some(place) => Err(Stop::Padding { id: link.id, at: padding + place }),
+        None => Ok(link),
+    }
+}
+
+/// The same, whatever its padding holds.
+pub fn segment_at(file: &[u8], at: usize, before: Option<u64>) -> Result<Link, Stop> {
     let rest = &file[at..];
     if rest.is_empty() {
         return Err(Stop::FileEnd);
@@ -152,10 +162,6 @@ fn link_at(file: &[u8], at: usize, before: Option<u64>) -> Result<Link, Stop> {
     }
     // Both are below the file's length, so neither is cut.
     let (length, end) = (length as usize, end as usize);
-    let padding = at + HEADER + length;
-    if let Some(place) = file[padding..end].iter().position(|&byte| byte != 0) {
-        return Err(Stop::Padding { id, at: padding + place });
-    }
     Ok(Link { offset: at, end, id, length, kind: header[5], flags: le16(header, 6) })
 }
 

@@ -36,7 +36,7 @@ fn any_words_and_any_file() {
 
 fn any_words(random: &mut Random) {
     put("batch".as_ref(), &small_batch());
-    let commands = ["list", "check", "get", "append", "retire", "help", "file", "--json"];
+    let commands = ["list", "check", "get", "append", "retire", "salvage", "help", "file", "--json"];
     let words = [
         "file", "file", "file", "batch", "batch", "empty", "missing", ".", "-", "", "1", "2", "30", "18446744073709551616", "--",
         "--json", "--help", "--version", "--create", "--segment", "--component", "--to", "--retire", "--time", "--vectors",
