@@ -92,7 +92,7 @@ fn first_break(file: &[u8], walk: &Walk, lost: &Lost) -> (usize, String) {
     for (index, link) in behind {
         let id = link.id;
         if link.kind != rvf::MANIFEST {
-            if lost.manifests.iter().any(|manifest| manifest.root && manifest.offset == link.offset as u64) {
+            if lost.manifests.binary_search_by_key(&(link.offset as u64), |manifest| manifest.offset).is_ok() {
                 let why = format!("segment {id} has the type {} ({}), and a manifest's root", link.kind, type_name(link.kind));
                 return (link.offset + 5, why);
             }

@@ -7,7 +7,7 @@ pub const ENTRY: usize = 48;
 pub const RECORD_HEAD: usize = 8;
 pub const ROOT: usize = 4_096;
 /// The most entries that a directory has.
-const ENTRIES: usize = 1_024;
+pub const ENTRIES: usize = 1_024;
 
 /// Why a segment of type 5 is no confirmed manifest.
 #[derive(Clone, Copy, Debug, PartialEq, Eq)]

@@ -3,7 +3,7 @@
 //! manifests that are damaged themselves.
 
 use crate::check::broken;
-use crate::manifests::{whole_alone, ENTRY, RECORD_HEAD};
+use crate::manifests::{whole_alone, ENTRIES, ENTRY, RECORD_HEAD};
 use crate::walk::{content_hash, le16, le32, le64, segment_at, Link, HEADER};
 use rvf::{LostManifest, Refusal, MANIFEST};
 use std::collections::HashSet;
@@ -107,7 +107,8 @@ fn entries(file: &[u8], manifest: usize) -> Vec<Piece> {
     if record.len() < RECORD_HEAD || le16(record, 0) != 1 {
         return Vec::new();
     }
-    let entries = record[RECORD_HEAD..].chunks_exact(ENTRY).take(le32(record, 2) as usize / ENTRY);
+    let count = (le32(record, 2) as usize / ENTRY).min(ENTRIES);
+    let entries = record[RECORD_HEAD..].chunks_exact(ENTRY).take(count);
     entries.filter_map(|entry| Piece::of_entry(file, entry)).collect()
 }
 

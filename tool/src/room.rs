@@ -1,12 +1,12 @@
 //! How much room a store has left, and what frees it.
 
 use crate::json::Json;
+use crate::manifests;
 use crate::quote::quoted;
 use rvf::FILE_LIMIT;
 use std::path::Path;
 
-/// The most entries that a directory has.
-pub const ENTRIES: u64 = 1_024;
+const ENTRIES: u64 = manifests::ENTRIES as u64;
 
 /// What is left of both limits.
 #[derive(Clone, Copy, Debug, PartialEq, Eq)]

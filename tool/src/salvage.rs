@@ -6,10 +6,10 @@ use crate::failure::{Failure, Refused, DONE, FAULTS};
 use crate::files::read_store;
 use crate::first::{put, Put};
 use crate::json::Json;
+use crate::manifests::ENTRIES;
 use crate::pieces::{find, Found, Piece};
 use crate::rebuild::rebuilt;
 use crate::refusals::{reading, Asked};
-use crate::room::ENTRIES;
 use crate::walk::type_name;
 use crate::Answer;
 use rvf::{Refusal, FILE_LIMIT};
@@ -58,7 +58,7 @@ pub fn salvage(path: &Path, file: &[u8], to: &Path, time: u64) -> Result<Salvage
 /// What is to be written keeps the limits, opens, and has the segments that were found.
 fn must_be_right(to: &Path, new: &[u8], found: &Found, id: u64) -> Result<(), Failure> {
     let count = found.kept.len();
-    if count as u64 > ENTRIES {
+    if count > ENTRIES {
         let why = format!("{count} segments are whole, a directory has at most {ENTRIES}");
         return Err(Refused::of(to, Refusal::DirectoryFull).why(why).into());
     }

@@ -5,6 +5,7 @@
 //! it has ended the chain or unconfirmed it: what the file answers now may be old.
 
 use crate::{crc32c, open, Refusal, BATCH_LIMIT, MANIFEST};
+use std::collections::BTreeMap;
 
 const HEADER: usize = 64;
 const ROOT: usize = 4_096;
@@ -58,14 +59,14 @@ pub fn lost_behind(file: &[u8]) -> Result<Option<Lost>, Refusal> {
         Err(refused) => return Err(refused.refusal),
     };
     let segments = segments(file, end);
-    let mut manifests = roots(file, end, &segments);
-    for segment in segments.iter().filter(|segment| segment.kind == MANIFEST) {
-        if manifests.iter().all(|root| root.offset != segment.start as u64) {
-            let (offset, end) = (segment.start as u64, segment.end as u64);
-            manifests.push(LostManifest { offset, end, id: le64(file, segment.start + 8), root: false });
-        }
-    }
-    manifests.sort_by_key(|manifest| manifest.offset);
+    let of_segment = |segment: &Segment| {
+        let (offset, end) = (segment.start as u64, segment.end as u64);
+        LostManifest { offset, end, id: le64(file, segment.start + 8), root: false }
+    };
+    let by_header = segments.iter().filter(|segment| segment.kind == MANIFEST).map(of_segment);
+    // Where both signs are found, the root's word counts.
+    let both = by_header.chain(roots(file, end, &segments)).map(|manifest| (manifest.offset, manifest));
+    let manifests: Vec<LostManifest> = both.collect::<BTreeMap<_, _>>().into_values().collect();
     let bytes = file.len() - end;
     let lost = !manifests.is_empty() || bytes > LONGEST_TAIL;
     Ok(lost.then_some(Lost { end: end as u64, bytes: bytes as u64, manifests }))
