@@ -23,7 +23,7 @@ pub struct Finding {
     /// The number with which calls refuse because of it.
     pub refusal: Option<Refusal>,
     pub what: String,
-    /// What it means for those who read.
+    /// What it means for those who read, in lines.
     pub effect: String,
 }
 
@@ -159,8 +159,8 @@ fn behind(file: &[u8], links: &[Link], manifest: &Manifest, loss: Option<&Loss>)
         return None;
     }
     if let Some(loss) = loss {
-        let what = format!("the chain breaks here: {}; {}", loss.why, loss.what());
-        let effect = format!("what is answered from manifest {} may be old: get, append and retire refuse", manifest.id);
+        let what = format!("the chain breaks: {}", loss.why);
+        let effect = format!("{}\nwhat manifest {} answers may be old: get, append and retire stop here", loss.what(), manifest.id);
         return Some(Finding { weight: Weight::Fault, offset: loss.at, segment: None, refusal: None, what, effect });
     }
     let links = match links.iter().filter(|link| link.offset >= end).count() {

@@ -20,8 +20,8 @@ pub enum Failure {
     Usage(String),
     /// The store's library refused.
     Refused(Refused),
-    /// Batches behind the end of the file's manifest are lost, so nothing is answered or written.
-    Lost { words: String, next: String },
+    /// Something is lost, so nothing is answered or written: what, where, and what to do next.
+    Lost(Vec<String>),
     /// An input that cannot be read or understood.
     Input(String),
     /// Reading or writing broke off.
@@ -86,7 +86,7 @@ impl Failure {
         match self {
             Failure::Usage(_) => USAGE,
             Failure::Refused(refused) => refused.refusal.number() as u8,
-            Failure::Lost { .. } => FAULTS,
+            Failure::Lost(_) => FAULTS,
             Failure::Input(_) => NO_INPUT,
             Failure::Io(_) => IO,
             Failure::Busy(_) => BUSY,
@@ -102,7 +102,7 @@ impl Failure {
                 let next = next.as_ref().map_or(String::new(), |words| format!("rvf: next: {words}\n"));
                 format!("rvf: {subject}: refused {}: {meaning}\n{why}{next}", refusal.number())
             }
-            Failure::Lost { words, next } => format!("rvf: {words}\nrvf: next: {next}\n"),
+            Failure::Lost(lines) => lines.iter().map(|line| format!("rvf: {line}\n")).collect(),
             Failure::Input(words) | Failure::Io(words) | Failure::Busy(words) => format!("rvf: {words}\n"),
         }
     }
@@ -110,6 +110,9 @@ impl Failure {
     /// The value for standard output where JSON is wished.
     pub fn json(&self) -> Json {
         let text = |words: &Option<String>| words.as_ref().map_or(Json::Null, Json::text);
+        let error = |words: &str| {
+            Json::Object(vec![("error", Json::text(words)), ("status", Json::Number(self.status().into()))])
+        };
         match self {
             Failure::Refused(Refused { refusal, meaning, why, next, .. }) => Json::Object(vec![
                 ("refused", Json::Number(refusal.number().into())),
@@ -117,9 +120,8 @@ impl Failure {
                 ("why", text(why)),
                 ("next", text(next)),
             ]),
-            Failure::Usage(words) | Failure::Lost { words, .. } | Failure::Input(words) | Failure::Io(words) | Failure::Busy(words) => {
-                Json::Object(vec![("error", Json::text(words)), ("status", Json::Number(self.status().into()))])
-            }
+            Failure::Lost(lines) => error(&lines.join("; ")),
+            Failure::Usage(words) | Failure::Input(words) | Failure::Io(words) | Failure::Busy(words) => error(words),
         }
     }
 }

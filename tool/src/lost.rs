@@ -42,33 +42,34 @@ impl Loss {
     }
 
     /// What a command says that would answer or write as if nothing were lost.
-    fn words(&self, path: &Path) -> String {
-        format!("{}: {}; the chain breaks at byte {}: {}", path.display(), self.what(), self.at, self.why)
+    fn lines(&self, path: &Path, meaning: &str) -> Vec<String> {
+        let (file, what) = (path.display(), self.what());
+        vec![format!("{file}: {what}"), format!("the chain breaks at byte {}: {}", self.at, self.why), meaning.to_string()]
+    }
+
+    fn failure(&self, path: &Path, meaning: &str, option: &str) -> Failure {
+        let mut lines = self.lines(path, meaning);
+        let file = quoted(path);
+        lines.push(format!("next: 'rvf check {file}' says more; 'rvf salvage {file} NEW' saves what is whole"));
+        lines.push(option.to_string());
+        Failure::Lost(lines)
     }
 
     /// No position is handed out.
     pub fn unanswered(&self, path: &Path) -> Failure {
-        let file = quoted(path);
-        let next = format!(
-            "'rvf check {file}' says more, 'rvf salvage {file} NEW' saves what is whole; \
-             --accept-older answers from before the break"
-        );
-        Failure::Lost { words: format!("{}; what the file answers may be old", self.words(path)), next }
+        let option = "or --accept-older, which answers from before the break";
+        self.failure(path, "what the file answers may be old", option)
     }
 
     /// Nothing is appended.
     pub fn unwritten(&self, path: &Path) -> Failure {
-        let file = quoted(path);
-        let next = format!(
-            "'rvf check {file}' says more, 'rvf salvage {file} NEW' saves what is whole; \
-             --discard-tail saves the bytes behind the end beside the file and appends"
-        );
-        Failure::Lost { words: format!("{}; an append would remove them", self.words(path)), next }
+        let option = "or --discard-tail, which saves what lies behind in a file of its own and appends";
+        self.failure(path, "an append would remove what lies behind; nothing is written", option)
     }
 
-    /// The line for standard error where the older answer is accepted.
+    /// The lines for standard error where the older answer is accepted.
     pub fn warning(&self, path: &Path) -> String {
-        format!("rvf: {}; this answer may be old\n", self.words(path))
+        Failure::Lost(self.lines(path, "this answer may be old")).messages()
     }
 
     pub fn json(&self) -> Json {

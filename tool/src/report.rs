@@ -28,7 +28,8 @@ fn text(path: &Path, checked: &Checked) -> String {
             Weight::Fault => "FAULT ",
             Weight::Remark => "remark",
         };
-        let _ = write!(text, "{word} byte {}: {}\n       {}\n", finding.offset, finding.what, finding.effect);
+        let _ = writeln!(text, "{word} byte {}: {}", finding.offset, finding.what);
+        finding.effect.lines().for_each(|line| text += &format!("       {line}\n"));
     }
     let (faults, remarks) = (checked.count(Weight::Fault), checked.count(Weight::Remark));
     let _ = writeln!(text, "{}, {}", plural(faults, "fault"), plural(remarks, "remark"));
@@ -67,7 +68,7 @@ fn next(path: &Path, checked: &Checked) -> String {
     if checked.loss.is_some() {
         return format!(
             "next: 'rvf salvage {path} NEW' saves every segment that is whole to a new file; or take a copy\n      \
-             from elsewhere, or append with --discard-tail, which saves the tail and appends the batches again\n"
+             from elsewhere; or append with --discard-tail, which saves what lies behind beside the file\n"
         );
     }
     let bad = |finding: &Finding| finding.segment.filter(|_| finding.weight == Weight::Fault);
@@ -112,6 +113,6 @@ fn finding_json(finding: &Finding) -> Json {
         ("segment", Json::maybe(finding.segment)),
         ("refused", Json::maybe(finding.refusal.map(|refusal| refusal.number().into()))),
         ("what", Json::text(&finding.what)),
-        ("effect", Json::text(&finding.effect)),
+        ("effect", Json::text(finding.effect.replace('\n', "; "))),
     ])
 }

@@ -45,8 +45,8 @@ pub fn salvage(path: &Path, file: &[u8], to: &Path, time: u64) -> Result<Salvage
     let lost = rvf::lost_behind(file).map_err(|refusal| reading(path, file, Asked::Directory, refusal))?;
     let found = find(file, &lost.map_or(Vec::new(), |lost| lost.manifests));
     if found.kept.is_empty() {
-        let words = format!("{}: no segment in it is whole, so there is nothing to save", path.display());
-        return Err(Failure::Lost { words, next: format!("{} is not written; take a copy from elsewhere", to.display()) });
+        let what = format!("{}: no segment in it is whole, so there is nothing to save", path.display());
+        return Err(Failure::Lost(vec![what, format!("next: take a copy from elsewhere; {} is not written", to.display())]));
     }
     let id = found.highest_id.and_then(|id| id.checked_add(1));
     let id = id.ok_or_else(|| Refused::of(to, Refusal::IdsUsedUp).why("a segment has the last id; no manifest can follow it"))?;

@@ -70,9 +70,11 @@ fn a_damaged_newest_manifest_is_a_fault() {
     assert_eq!(checked.manifest.as_ref().map(|(manifest, _)| manifest.id), Some(4));
     assert_eq!(weights(&checked), (1, 0));
     let fault = &checked.findings[0];
-    let wanted = "the chain breaks here: segment 6 (MANIFEST) is no confirmed manifest: its content hash differs; \
-                  4672 bytes behind byte 9152 are lost, not cut short: manifest 6 at byte 9344 among them";
+    let wanted = "the chain breaks: segment 6 (MANIFEST) is no confirmed manifest: its content hash differs";
     assert_eq!((fault.offset, fault.what.as_str()), (9_344, wanted));
+    let effect = "4672 bytes behind byte 9152 are lost, not cut short: manifest 6 at byte 9344 among them\n\
+                  what manifest 4 answers may be old: get, append and retire stop here";
+    assert_eq!(fault.effect, effect);
 }
 
 /// An older manifest is in the directory, and nothing but its own payload depends on it.

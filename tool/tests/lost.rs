@@ -20,7 +20,7 @@ fn place(name: &str, file: &[u8]) -> Place {
 }
 
 const WHAT: &str = "14823104 bytes behind byte 4416 are lost, not cut short: 511 manifests among them, the newest is \
-                    manifest 1023 at byte 14774208; the chain breaks at byte 4422: the flags 0x8000 are not allowed";
+                    manifest 1023 at byte 14774208\nrvf: the chain breaks at byte 4422: the flags 0x8000 are not allowed";
 
 /// No answer, status 65, and a message that names the lost manifest and `rvf check`.
 fn must_be_unanswered(ran: &Ran, file: &str) {
@@ -36,7 +36,7 @@ fn nothing_old_is_handed_out() {
     for words in [&["7"][..], &["7", "--component", "1"], &["--segment", "0"], &["8"]] {
         let ran = rvf(&[&["get", file], words].concat());
         must_be_unanswered(&ran, file);
-        assert!(ran.stderr.contains("--accept-older answers from before the break"), "{}", ran.stderr);
+        assert!(ran.stderr.ends_with("or --accept-older, which answers from before the break\n"), "{}", ran.stderr);
         let ran = rvf(&[&["get", file, "--json"], words].concat());
         assert!(ran.json().contains("manifest 1023") && ran.json().ends_with(",\"status\":65}"), "{}", ran.json());
     }
@@ -46,11 +46,11 @@ fn nothing_old_is_handed_out() {
     // Whoever wants the older position says so, and is told what it is.
     let ran = rvf(&["get", file, "7", "--accept-older"]);
     assert_eq!((ran.status, ran.text()), (0, "vector 7, dim 3, dtype f32\n1 100 200\n"));
-    assert!(ran.stderr.starts_with(&format!("rvf: {file}: {WHAT}")) && ran.stderr.ends_with("; this answer may be old\n"));
+    assert!(ran.stderr.starts_with(&format!("rvf: {file}: {WHAT}")) && ran.stderr.ends_with("\nrvf: this answer may be old\n"));
     for words in [&["7"][..], &["7", "--component", "1"], &["--segment", "0"]] {
         let ran = rvf(&[&["get", file, "--accept-older", "--json"], words].concat());
         assert!(ran.status == 0 && ran.json().ends_with(",\"may_be_old\":true}"), "{}", ran.json());
-        assert!(ran.stderr.ends_with("; this answer may be old\n"));
+        assert!(ran.stderr.ends_with("\nrvf: this answer may be old\n"));
     }
     // Where nothing is lost, the option changes nothing.
     put(&place.file, &passes(3));
@@ -76,7 +76,7 @@ fn check_finds_a_fault() {
     let place = place("lost-check", &flipped());
     let ran = rvf(&["check", text(&place.file)]);
     assert_eq!((ran.status, ran.stderr.as_str()), (65, ""));
-    let fault = "\nFAULT  byte 4422: the chain breaks here: the flags 0x8000 are not allowed (only 0x03c8 and parts of it); \
+    let fault = "\nFAULT  byte 4422: the chain breaks: the flags 0x8000 are not allowed (only 0x03c8 and parts of it)\n       \
                  14823104 bytes behind byte 4416 are lost, not cut short: 511 manifests among them, the newest is manifest 1023 ";
     assert!(ran.text().contains(fault), "{}", ran.text());
     assert!(ran.text().contains("\n1 fault, 0 remarks\nnext: 'rvf salvage "), "{}", ran.text());
@@ -87,7 +87,7 @@ fn check_finds_a_fault() {
     padded[4_692] ^= 4;
     put(&place.file, &padded);
     let ran = rvf(&["check", text(&place.file)]);
-    let fault = "FAULT  byte 4692: the chain breaks here: padding of segment 3 at byte 4692 is not zero; 9408 bytes behind byte 4416";
+    let fault = "FAULT  byte 4692: the chain breaks: padding of segment 3 at byte 4692 is not zero\n       9408 bytes behind byte 4416";
     assert!(ran.status == 65 && ran.text().contains(fault), "{}", ran.text());
 }
 
@@ -99,7 +99,7 @@ fn nothing_is_appended_unless_the_tail_is_saved() {
     let retire = |words: &[&str]| rvf(&[&["retire", file, "0"], words].concat());
     for ran in [place.append(&[]), retire(&[]), place.append(&["--dry-run"])] {
         must_be_unanswered(&ran, file);
-        assert!(ran.stderr.contains("--discard-tail saves the bytes behind the end"), "{}", ran.stderr);
+        assert!(ran.stderr.contains("or --discard-tail, which saves what lies behind"), "{}", ran.stderr);
         assert!(bytes_of(&place.file) == old);
     }
     let tail = |number: usize| place.file.with_file_name(format!("f.rvf.tail-{number}"));
