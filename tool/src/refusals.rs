@@ -65,12 +65,12 @@ fn no_vector(path: &Path, file: &[u8], id: u64, asked: Asked, refused: Refused) 
     let refused = Refused { meaning: "there is no such vector", ..refused };
     match entry(file, id) {
         Some(entry) => {
-            let kind = type_name(entry.kind);
-            refused.why(format!("{why}; a segment has it, and a segment is not a vector: {kind}, {} bytes", entry.length))
+            let (kind, length) = (type_name(entry.kind), entry.length);
+            let next = format!("'rvf get {path} --segment {id}' gets the segment, if it is live");
+            refused.why(format!("{why}; segment {id} ({kind}, {length} bytes) has it, and a segment is no vector")).next(next)
         }
-        None => refused.why(why),
+        None => refused.why(why).next(format!("'rvf list {path}' shows the segments; those of type VEC hold vectors")),
     }
-    .next(format!("vectors stand in segments of type 1 (VEC), which 'rvf list {path}' shows; 'rvf get {path} --segment ID' gets one"))
 }
 
 /// The entry of the directory with a segment's id.

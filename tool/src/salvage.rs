@@ -106,7 +106,7 @@ impl Report<'_> {
         let unstated = self.unstated();
         if unstated > 0 {
             let from = states.map_or("no manifest is whole".to_string(), |(id, _)| format!("manifest {id} is the last that is whole"));
-            let _ = writeln!(text, "{from}: {unstated} of these are taken as live, and what was retired later is not known");
+            let _ = writeln!(text, "{from}: {unstated} of these taken as live; what was retired later is not known");
         }
         let bytes = self.file.len();
         let _ = writeln!(text, "{}: {} kept and {} lost of {bytes} bytes; {manifests} old manifests left out", path.display(), kept.len(), lost.len());

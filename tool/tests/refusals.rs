@@ -115,9 +115,9 @@ fn vectors_that_are_not_there() {
     assert!(ran.stderr.starts_with(&format!("rvf: {file}: refused 8: there is no such vector\n")) && !ran.stderr.contains("component"));
     assert_eq!(why(&ran, &place.file, 8)[0], "no live segment of vectors holds the id 99");
     let lines = why(&rvf(&["get", file, "3"]), &place.file, 8);
-    let wanted = "no live segment of vectors holds the id 3; a segment has it, and a segment is not a vector: META, 14 bytes";
+    let wanted = "no live segment of vectors holds the id 3; segment 3 (META, 14 bytes) has it, and a segment is no vector";
     assert_eq!(lines[0], wanted);
-    assert!(lines[1].contains(&format!("'rvf get {file} --segment ID' gets one")), "{lines:?}");
+    assert!(lines[1].contains(&format!("'rvf get {file} --segment 3' gets the segment")), "{lines:?}");
     let lines = why(&rvf(&["get", file, "7", "--component", "3"]), &place.file, 8);
     assert_eq!(lines[0], "vector 7 has 3 components, 0 to 2; 3 is none of them");
     // And the other way round.

@@ -142,7 +142,7 @@ fn states_that_are_not_known() {
     file[13_822] ^= 1;
     let (new, ran) = run("salvage-states", &file, &[]);
     assert_eq!(ran.status, 65);
-    let said = "manifest 4 is the last that is whole: 1 of these are taken as live, and what was retired later is not known\n";
+    let said = "manifest 4 is the last that is whole: 1 of these taken as live; what was retired later is not known\n";
     assert!(ran.text().contains(said), "{}", ran.text());
     assert_eq!(rvf(&["get", text(&new), "30"]).text(), "vector 30, dim 3, dtype f32\n3 103 203\n");
 }
