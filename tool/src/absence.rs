@@ -11,11 +11,20 @@ use std::path::Path;
 pub enum Absence {
     Empty,
     /// It begins with other bytes than an RVF file does.
-    Foreign { front: Vec<u8> },
+    Foreign {
+        front: Vec<u8>,
+    },
     /// A first batch that was cut at the file's end.
-    Cut { length: usize },
+    Cut {
+        length: usize,
+    },
     /// The byte and the rule at which the chain breaks, and what is lost behind it.
-    Damaged { first_header: bool, at: usize, why: String, lost: Option<String> },
+    Damaged {
+        first_header: bool,
+        at: usize,
+        why: String,
+        lost: Option<String>,
+    },
 }
 
 impl Absence {
@@ -45,7 +54,9 @@ impl Absence {
                 let front: Vec<String> = front.iter().map(|byte| format!("{byte:02x}")).collect();
                 format!("this is not an RVF file: it begins with {}, not 52 56 46 53", front.join(" "))
             }
-            Absence::Cut { length } => format!("it holds a first batch that was cut at byte {length}; nothing was in the store before"),
+            Absence::Cut { length } => {
+                format!("it holds a first batch that was cut at byte {length}; nothing was in the store before")
+            }
             Absence::Damaged { first_header, at, why, lost } => {
                 let what = if *first_header { "its first header is damaged" } else { "it is damaged" };
                 let lost = lost.as_ref().map_or(String::new(), |words| format!("; {words}"));

@@ -33,7 +33,9 @@ impl Attempt<'_> {
             Refusal::Retire => self.retire(of_file),
             Refusal::FileTooLong => of_file.why(self.too_long()).next(frees(path)),
             Refusal::DirectoryFull => of_file.why(self.too_many()).next(frees(path)),
-            Refusal::IdsUsedUp => of_file.why("the file's manifest has the last ids").next("start a new file with --create"),
+            Refusal::IdsUsedUp => {
+                of_file.why("the file's manifest has the last ids").next("start a new file with --create")
+            }
             _ => of_file,
         }
         .into()
@@ -71,13 +73,15 @@ impl Attempt<'_> {
         let own = rvf::open(self.file).is_ok_and(|manifest| manifest.id == id);
         match entry(self.file, id) {
             _ if !first => Some(format!("segment {id} is listed twice")),
-            Some(entry) if entry.kind == rvf::MANIFEST => Some(format!("segment {id} is a manifest, which is never retired")),
+            Some(entry) if entry.kind == rvf::MANIFEST => {
+                Some(format!("segment {id} is a manifest, which is never retired"))
+            }
             Some(entry) if entry.retired => Some(format!("segment {id} is retired already")),
             Some(_) => None,
             None if own => Some(format!("segment {id} is the file's own manifest, which is never retired")),
-            None if rvf::vector(self.file, id).is_ok() => {
-                Some(format!("segment {id} is not in the directory; a vector has this id, and segments are retired, not vectors"))
-            }
+            None if rvf::vector(self.file, id).is_ok() => Some(format!(
+                "segment {id} is not in the directory; a vector has this id, and segments are retired, not vectors"
+            )),
             None => Some(format!("segment {id} is not in the directory")),
         }
     }

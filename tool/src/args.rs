@@ -16,7 +16,10 @@ pub enum Command {
     Check(Vec<PathBuf>),
     Get(Get),
     Append(Append),
-    Salvage { file: PathBuf, to: PathBuf },
+    Salvage {
+        file: PathBuf,
+        to: PathBuf,
+    },
 }
 
 #[derive(Debug)]

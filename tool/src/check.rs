@@ -123,12 +123,16 @@ impl Search {
         }
         let search = match self.first_bad {
             Some(newer) => {
-                format!("searches for a vector stop at segment {newer}; without that one they would refuse {number} here")
+                format!(
+                    "searches for a vector stop at segment {newer}; without that one they would refuse {number} here"
+                )
             }
             None if self.any_newer => {
                 format!("every search for a vector that no newer segment holds refuses {number}; nothing older is answered")
             }
-            None => format!("every search for a vector refuses {number}, since this is the newest live segment of vectors"),
+            None => {
+                format!("every search for a vector refuses {number}, since this is the newest live segment of vectors")
+            }
         };
         self.first_bad = self.first_bad.or(Some(link.id));
         self.any_newer = true;
@@ -160,7 +164,8 @@ fn behind(file: &[u8], links: &[Link], manifest: &Manifest, loss: Option<&Loss>)
     }
     if let Some(loss) = loss {
         let what = format!("the chain breaks: {}", loss.why);
-        let effect = format!("{}\nwhat manifest {} answers may be old: get, append and retire stop here", loss.what(), manifest.id);
+        let (lost, id) = (loss.what(), manifest.id);
+        let effect = format!("{lost}\nwhat manifest {id} answers may be old: get, append and retire stop here");
         return Some(Finding { weight: Weight::Fault, offset: loss.at, segment: None, refusal: None, what, effect });
     }
     let links = match links.iter().filter(|link| link.offset >= end).count() {

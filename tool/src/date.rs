@@ -42,7 +42,8 @@ mod tests {
         let (mut year, mut month, mut day) = (1970, 1, 1);
         for days in 0..220_000 {
             assert_eq!(date(days), (year, month, day));
-            let length = [31, if leap(year) { 29 } else { 28 }, 31, 30, 31, 30, 31, 31, 30, 31, 30, 31][month as usize - 1];
+            let length =
+                [31, if leap(year) { 29 } else { 28 }, 31, 30, 31, 30, 31, 31, 30, 31, 30, 31][month as usize - 1];
             (year, month, day) = match (month, day) {
                 (12, 31) => (year + 1, 1, 1),
                 _ if day == length => (year, month + 1, 1),

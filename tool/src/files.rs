@@ -56,7 +56,9 @@ fn whole(bytes: Vec<u8>, before: u64, now: u64) -> Result<Vec<u8>, String> {
 
 pub fn too_long(path: &Path, length: u64) -> Refused {
     let why = format!("it has {length} bytes, a file has at most {FILE_LIMIT}");
-    Refused::of(path, Refusal::FileTooLong).why(why).next("is it the file that you mean? a store never grows above the limit")
+    Refused::of(path, Refusal::FileTooLong)
+        .why(why)
+        .next("is it the file that you mean? a store never grows above the limit")
 }
 
 /// Refuses directories, pipes and devices: opening a pipe may wait for ever, and only a
@@ -124,11 +126,17 @@ mod tests {
     #[test]
     fn only_what_has_the_length_that_the_system_says_is_whole() {
         assert_eq!(whole(vec![1; 10], 10, 10), Ok(vec![1; 10]));
-        assert_eq!(whole(vec![1; 9], 10, 10).unwrap_err(), "reading ended early: 9 bytes, and the system says that it has 10");
+        assert_eq!(
+            whole(vec![1; 9], 10, 10).unwrap_err(),
+            "reading ended early: 9 bytes, and the system says that it has 10"
+        );
         assert!(whole(vec![1; 11], 10, 10).unwrap_err().starts_with("there is more to read than there should be"));
         for (read, before, now) in [(9, 10, 9), (10, 10, 11), (11, 10, 11), (0, 0, 5)] {
             let words = whole(vec![1; read], before, now).unwrap_err();
-            assert_eq!(words, format!("has changed its length from {before} to {now} bytes while it was read; try again"));
+            assert_eq!(
+                words,
+                format!("has changed its length from {before} to {now} bytes while it was read; try again")
+            );
         }
     }
 }

@@ -59,7 +59,8 @@ pub fn put(path: &Path, bytes: &[u8], wait: Duration) -> Result<Put, Failure> {
     };
     written.map_err(|error| taken_back(error, &temporary))?;
     fs::rename(&temporary, path).map_err(|error| taken_back(error, &temporary))?;
-    flush_folder(path).map_err(|failure| taken_back(io::Error::other(failure.messages().trim_end().to_string()), path))?;
+    flush_folder(path)
+        .map_err(|failure| taken_back(io::Error::other(failure.messages().trim_end().to_string()), path))?;
     Ok(Put::Done)
 }
 
@@ -69,7 +70,9 @@ fn open(path: &Path, temporary: &Path, wait: Duration) -> Result<File, Failure> 
     loop {
         let opened = OpenOptions::new().read(true).write(true).create(true).truncate(false).open(temporary);
         let file = opened.map_err(|error| match error.kind() {
-            ErrorKind::NotFound => Failure::Io(format!("{}: cannot be created: there is no such folder", path.display())),
+            ErrorKind::NotFound => {
+                Failure::Io(format!("{}: cannot be created: there is no such folder", path.display()))
+            }
             _ => Failure::broken(path, "cannot be created", &error),
         })?;
         lock(path, &file, wait)?;

@@ -29,7 +29,9 @@ pub fn run(request: &Get, json: bool) -> Result<Answer, Failure> {
     }
     let mut got = match &request.wanted {
         Wanted::Vector(id) => vector(*id, &rvf::vector(&file, *id).map_err(refused)?),
-        Wanted::Component { id, index } => component(*id, *index, rvf::component(&file, *id, *index).map_err(refused)?),
+        Wanted::Component { id, index } => {
+            component(*id, *index, rvf::component(&file, *id, *index).map_err(refused)?)
+        }
         Wanted::Segment { id, to } => segment(*id, rvf::payload(&file, *id).map_err(refused)?, to.as_deref())?,
     };
     got.members.extend(loss.as_ref().map(|_| ("may_be_old", Json::True)));

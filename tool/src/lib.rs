@@ -106,11 +106,7 @@ fn perform(command: &Command, json: bool, stdin: &mut dyn Read) -> Result<Answer
 
 /// A command on several files: each has its answer, a failing one too, and the status is the
 /// first that is not 0. In JSON the answers are a list.
-fn each(
-    files: &[PathBuf],
-    json: bool,
-    run: impl Fn(&Path) -> Result<Answer, Failure>,
-) -> Result<Answer, Failure> {
+fn each(files: &[PathBuf], json: bool, run: impl Fn(&Path) -> Result<Answer, Failure>) -> Result<Answer, Failure> {
     if let [file] = files {
         return run(file);
     }
@@ -120,7 +116,10 @@ fn each(
             Answer::of(json, || failure.json(), String::new).saying(failure.messages()).with_status(failure.status())
         });
         let output = String::from_utf8_lossy(&answer.output).into_owned();
-        let members = vec![("file", Json::text(file.display().to_string())), ("answer", Json::Written(output.trim_end().to_string()))];
+        let members = vec![
+            ("file", Json::text(file.display().to_string())),
+            ("answer", Json::Written(output.trim_end().to_string())),
+        ];
         values.push(Json::Object(members));
         texts.extend((!output.is_empty()).then_some(output));
         messages += &answer.messages;

@@ -44,7 +44,11 @@ impl Loss {
     /// What a command says that would answer or write as if nothing were lost.
     fn lines(&self, path: &Path, meaning: &str) -> Vec<String> {
         let (file, what) = (path.display(), self.what());
-        vec![format!("{file}: {what}"), format!("the chain breaks at byte {}: {}", self.at, self.why), meaning.to_string()]
+        vec![
+            format!("{file}: {what}"),
+            format!("the chain breaks at byte {}: {}", self.at, self.why),
+            meaning.to_string(),
+        ]
     }
 
     fn failure(&self, path: &Path, meaning: &str, option: &str) -> Failure {
@@ -94,7 +98,11 @@ fn first_break(file: &[u8], walk: &Walk, lost: &Lost) -> (usize, String) {
         let id = link.id;
         if link.kind != rvf::MANIFEST {
             if lost.manifests.binary_search_by_key(&(link.offset as u64), |manifest| manifest.offset).is_ok() {
-                let why = format!("segment {id} has the type {} ({}), and a manifest's root", link.kind, type_name(link.kind));
+                let why = format!(
+                    "segment {id} has the type {} ({}), and a manifest's root",
+                    link.kind,
+                    type_name(link.kind)
+                );
                 return (link.offset + 5, why);
             }
         } else if let Some(doubt) = doubt(file, link, &walk.links[..index]) {

@@ -46,7 +46,16 @@ impl Piece {
         let mut hash = [0; 16];
         hash.copy_from_slice(&entry[24..40]);
         let (id, time) = (le64(entry, 8), le64(header, 24));
-        Some(Piece { offset, id, length, kind: entry[40], flags: le16(entry, 42), retired: entry[41] == 1, time, hash })
+        Some(Piece {
+            offset,
+            id,
+            length,
+            kind: entry[40],
+            flags: le16(entry, 42),
+            retired: entry[41] == 1,
+            time,
+            hash,
+        })
     }
 }
 
@@ -144,7 +153,9 @@ impl Found {
         let (kept, lost) = (std::mem::take(&mut self.kept), &mut self.lost);
         for piece in kept {
             match last {
-                Some(last) if piece.offset < last.end() => lost.push((piece, format!("it overlaps segment {}", last.id))),
+                Some(last) if piece.offset < last.end() => {
+                    lost.push((piece, format!("it overlaps segment {}", last.id)))
+                }
                 Some(last) if piece.id <= last.id => lost.push((piece, format!("its id is not above {}", last.id))),
                 _ => {
                     last = Some(piece);

@@ -70,7 +70,8 @@ impl Plan {
         let entries = if count == 1 { "entry" } else { "entries" };
         let dry = ("would append", "would retire", "would be");
         let (append, retire, are) = if done.dry_run { dry } else { ("appended", "retired", "are") };
-        let mut text = format!("{}: {append} {segments}manifest {id}; {count} {entries}, {end} bytes\n", path.display());
+        let mut text =
+            format!("{}: {append} {segments}manifest {id}; {count} {entries}, {end} bytes\n", path.display());
         for (entry, time) in &self.retired {
             let (id, kind, length) = (entry.id, type_name(entry.kind), entry.length);
             text += &format!("{retire} segment {id}: {kind}, {length} bytes, time {}\n", date::shown(*time));

@@ -16,7 +16,8 @@ mod tests {
 
     #[test]
     fn a_shell_takes_it_as_one_word() {
-        let cases = [("a/b-1.rvf", "a/b-1.rvf"), ("my file", "'my file'"), ("it's", "'it'\\''s'"), ("-q", "./-q"), ("", "''")];
+        let cases =
+            [("a/b-1.rvf", "a/b-1.rvf"), ("my file", "'my file'"), ("it's", "'it'\\''s'"), ("-q", "./-q"), ("", "''")];
         for (path, wanted) in cases {
             assert_eq!(quoted(Path::new(path)), wanted);
         }
@@ -25,7 +26,18 @@ mod tests {
     #[cfg(unix)]
     #[test]
     fn what_the_shell_says_of_it() {
-        for name in ["plain", "two words", "a'b\"c", "$HOME `x`", "semi;colon&", "*?[a]", "back\\slash", "line\nfeed", "~", "#"] {
+        for name in [
+            "plain",
+            "two words",
+            "a'b\"c",
+            "$HOME `x`",
+            "semi;colon&",
+            "*?[a]",
+            "back\\slash",
+            "line\nfeed",
+            "~",
+            "#",
+        ] {
             let script = format!("printf %s {}", quoted(Path::new(name)));
             let ran = std::process::Command::new("sh").args(["-c", &script]).output().expect("the shell runs");
             assert_eq!(String::from_utf8_lossy(&ran.stdout), name);

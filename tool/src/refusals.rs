@@ -25,7 +25,9 @@ pub fn reading(path: &Path, file: &[u8], asked: Asked, refusal: Refusal) -> Fail
         (Refusal::FileTooLong, _) => too_long(path, file.len() as u64),
         (Refusal::NoManifest, _) => absent(path, file, refused),
         (Refusal::NotLive, Asked::Segment(id)) => not_live(path, file, id, refused),
-        (Refusal::NoVector, Asked::Vector(id) | Asked::Component { id, .. }) => no_vector(path, file, id, asked, refused),
+        (Refusal::NoVector, Asked::Vector(id) | Asked::Component { id, .. }) => {
+            no_vector(path, file, id, asked, refused)
+        }
         _ => match bad_segment(file, asked, refusal) {
             Some(link) => refused.why(bad(&link, refusal)).next(bad_next(path, &link)),
             None => refused.next(format!("'rvf check {}' says what is wrong, and where", quoted(path))),
@@ -46,11 +48,17 @@ fn not_live(path: &Path, file: &[u8], id: u64, refused: Refused) -> Refused {
     let manifest = rvf::open(file).ok().map(|manifest| manifest.id);
     let why = match entry(file, id) {
         Some(entry) => format!("segment {id} ({}, {} bytes) is retired", type_name(entry.kind), entry.length),
-        None if manifest == Some(id) => format!("segment {id} is the file's own manifest, which is no entry of its directory"),
+        None if manifest == Some(id) => {
+            format!("segment {id} is the file's own manifest, which is no entry of its directory")
+        }
         None => format!("no segment has the id {id}"),
     };
     let listed = format!("'rvf list {path}' shows the segments and their states");
-    let next = if rvf::vector(file, id).is_ok() { format!("'rvf get {path} {id}' gets the vector {id}; {listed}") } else { listed };
+    let next = if rvf::vector(file, id).is_ok() {
+        format!("'rvf get {path} {id}' gets the vector {id}; {listed}")
+    } else {
+        listed
+    };
     refused.why(why).next(next)
 }
 
@@ -59,7 +67,9 @@ fn no_vector(path: &Path, file: &[u8], id: u64, asked: Asked, refused: Refused) 
     if let (Asked::Component { index, .. }, Ok(vector)) = (asked, rvf::vector(file, id)) {
         let dim = vector.components().count();
         let why = format!("vector {id} has {dim} components, 0 to {}; {index} is none of them", dim - 1);
-        return Refused { meaning: "the vector has no such component", ..refused }.why(why).next("name one that it has");
+        return Refused { meaning: "the vector has no such component", ..refused }
+            .why(why)
+            .next("name one that it has");
     }
     let why = format!("no live segment of vectors holds the id {id}");
     let refused = Refused { meaning: "there is no such vector", ..refused };
@@ -67,7 +77,9 @@ fn no_vector(path: &Path, file: &[u8], id: u64, asked: Asked, refused: Refused) 
         Some(entry) => {
             let (kind, length) = (type_name(entry.kind), entry.length);
             let next = format!("'rvf get {path} --segment {id}' gets the segment, if it is live");
-            refused.why(format!("{why}; segment {id} ({kind}, {length} bytes) has it, and a segment is no vector")).next(next)
+            refused
+                .why(format!("{why}; segment {id} ({kind}, {length} bytes) has it, and a segment is no vector"))
+                .next(next)
         }
         None => refused.why(why).next(format!("'rvf list {path}' shows the segments; those of type VEC hold vectors")),
     }

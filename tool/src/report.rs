@@ -22,7 +22,8 @@ pub fn run(path: &Path, json: bool) -> Result<Answer, Failure> {
 }
 
 fn text(path: &Path, checked: &Checked) -> String {
-    let mut text = format!("{}: {} bytes\n{}\n{}\n", path.display(), checked.length, chain(checked), manifest(checked));
+    let mut text =
+        format!("{}: {} bytes\n{}\n{}\n", path.display(), checked.length, chain(checked), manifest(checked));
     for finding in &checked.findings {
         let word = match finding.weight {
             Weight::Fault => "FAULT ",

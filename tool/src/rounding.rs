@@ -44,7 +44,8 @@ pub fn held(text: &str, value: f32) -> bool {
     if digits == 0 {
         return value == 0.0;
     }
-    written == Decimal::of(&format!("{value:e}")) || (digits <= DIGITS && written == Decimal::of(&format!("{value:.*e}", digits - 1)))
+    written == Decimal::of(&format!("{value:e}"))
+        || (digits <= DIGITS && written == Decimal::of(&format!("{value:.*e}", digits - 1)))
 }
 
 #[cfg(test)]
@@ -57,18 +58,47 @@ mod tests {
 
     #[test]
     fn what_an_f32_holds_is_taken() {
-        for text in ["0", "-0.00", "0.1", "+1.50", "1e3", ".5", "5.", "102.25", "16777216", "1e-45", "3.1415927", "3.4028235e38"] {
+        for text in [
+            "0",
+            "-0.00",
+            "0.1",
+            "+1.50",
+            "1e3",
+            ".5",
+            "5.",
+            "102.25",
+            "16777216",
+            "1e-45",
+            "3.1415927",
+            "3.4028235e38",
+        ] {
             assert!(taken(text), "{text}");
         }
         // As a program prints an f32 with nine digits, and its exact value.
-        for text in ["0.100000001", "16777216.0", "0.100000001490116119384765625", "1.40129846e-45", "NaN", "-inf", "0e99999999999999999999"] {
+        for text in [
+            "0.100000001",
+            "16777216.0",
+            "0.100000001490116119384765625",
+            "1.40129846e-45",
+            "NaN",
+            "-inf",
+            "0e99999999999999999999",
+        ] {
             assert!(taken(text), "{text}");
         }
     }
 
     #[test]
     fn what_would_be_rounded_is_not() {
-        for text in ["16777217", "1e-50", "3.14159265358979", "0.1000000001", "-123456789", "1e-99999999999999999999", "0.3000000000000000001"] {
+        for text in [
+            "16777217",
+            "1e-50",
+            "3.14159265358979",
+            "0.1000000001",
+            "-123456789",
+            "1e-99999999999999999999",
+            "0.3000000000000000001",
+        ] {
             assert!(!taken(text), "{text}");
         }
     }

@@ -46,10 +46,15 @@ pub fn salvage(path: &Path, file: &[u8], to: &Path, time: u64) -> Result<Salvage
     let found = find(file, &lost.map_or(Vec::new(), |lost| lost.manifests));
     if found.kept.is_empty() {
         let what = format!("{}: no segment in it is whole, so there is nothing to save", path.display());
-        return Err(Failure::Lost(vec![what, format!("next: take a copy from elsewhere; {} is not written", to.display())]));
+        return Err(Failure::Lost(vec![
+            what,
+            format!("next: take a copy from elsewhere; {} is not written", to.display()),
+        ]));
     }
     let id = found.highest_id.and_then(|id| id.checked_add(1));
-    let id = id.ok_or_else(|| Refused::of(to, Refusal::IdsUsedUp).why("a segment has the last id; no manifest can follow it"))?;
+    let id = id.ok_or_else(|| {
+        Refused::of(to, Refusal::IdsUsedUp).why("a segment has the last id; no manifest can follow it")
+    })?;
     let new = rebuilt(file, &found.kept, id, time);
     must_be_right(to, &new, &found, id)?;
     Ok(Salvaged { new, found, id })
@@ -73,7 +78,11 @@ fn must_be_right(to: &Path, new: &[u8], found: &Found, id: u64) -> Result<(), Fa
             && (piece.retired || rvf::payload(new, piece.id).is_ok())
     });
     let right = same && entries.len() == count && rvf::open(new).is_ok_and(|manifest| manifest.id == id);
-    if right { Ok(()) } else { Err(Failure::Io(format!("{}: what was put together does not read back; it is not written", to.display()))) }
+    if right {
+        Ok(())
+    } else {
+        Err(Failure::Io(format!("{}: what was put together does not read back; it is not written", to.display())))
+    }
 }
 
 /// What became of each segment.
@@ -105,12 +114,26 @@ impl Report<'_> {
         }
         let unstated = self.unstated();
         if unstated > 0 {
-            let from = states.map_or("no manifest is whole".to_string(), |(id, _)| format!("manifest {id} is the last that is whole"));
+            let from = states.map_or("no manifest is whole".to_string(), |(id, _)| {
+                format!("manifest {id} is the last that is whole")
+            });
             let _ = writeln!(text, "{from}: {unstated} of these taken as live; what was retired later is not known");
         }
         let bytes = self.file.len();
-        let _ = writeln!(text, "{}: {} kept and {} lost of {bytes} bytes; {manifests} old manifests left out", path.display(), kept.len(), lost.len());
-        let _ = writeln!(text, "{}: written, with manifest {}; {} bytes", self.to.display(), self.salvaged.id, self.salvaged.new.len());
+        let _ = writeln!(
+            text,
+            "{}: {} kept and {} lost of {bytes} bytes; {manifests} old manifests left out",
+            path.display(),
+            kept.len(),
+            lost.len()
+        );
+        let _ = writeln!(
+            text,
+            "{}: written, with manifest {}; {} bytes",
+            self.to.display(),
+            self.salvaged.id,
+            self.salvaged.new.len()
+        );
         text
     }
 

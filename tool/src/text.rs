@@ -72,7 +72,8 @@ fn vectors(text: &[u8], reading: Reading) -> Result<Vec<Vector>, Wrong> {
         let Some(id) = words.next() else {
             continue;
         };
-        let id = decimal(id).ok_or_else(|| at(line, format!("the id must be a whole number of 64 bits, not '{id}'")))?;
+        let id =
+            decimal(id).ok_or_else(|| at(line, format!("the id must be a whole number of 64 bits, not '{id}'")))?;
         let values: Vec<f32> = words.map(|word| value(line, word, reading)).collect::<Result<_, _>>()?;
         if values.is_empty() {
             return Err(at(line, "has an id and no values"));
@@ -91,9 +92,10 @@ fn value(line: usize, word: &str, reading: Reading) -> Result<f32, Wrong> {
         Ok(value) if value.is_infinite() && word.bytes().any(|byte| byte.is_ascii_digit()) => {
             Err(at(line, format!("'{word}' is too large for an f32")))
         }
-        Ok(value) if !reading.round && !held(word, value) => {
-            Err(at(line, format!("'{word}' would be rounded to {value}, which an f32 holds; if that will do, add --round")))
-        }
+        Ok(value) if !reading.round && !held(word, value) => Err(at(
+            line,
+            format!("'{word}' would be rounded to {value}, which an f32 holds; if that will do, add --round"),
+        )),
         Ok(value) => Ok(value),
     }
 }

@@ -74,7 +74,11 @@ fn a_write_that_fails_leaves_no_file() {
     let limited = |place: &Place| {
         let script = "trap '' XFSZ; ulimit -f 2; exec \"$0\" append \"$1\" \"$2\" --create";
         let mut shell = std::process::Command::new("sh");
-        shell.args(["-c", script, env!("CARGO_BIN_EXE_rvf")]).args([&place.file, &place.batch]).output().expect("the shell runs")
+        shell
+            .args(["-c", script, env!("CARGO_BIN_EXE_rvf")])
+            .args([&place.file, &place.batch])
+            .output()
+            .expect("the shell runs")
     };
     let place = missing("create-full");
     let ran = limited(&place);
@@ -93,8 +97,10 @@ fn a_write_that_fails_leaves_no_file() {
 #[test]
 fn many_first_batches_at_once() {
     for round in 0..6 {
-        let place = if round % 2 == 0 { missing("create-many") } else { Place::new("create-many", b"", &small_batch()) };
-        let words: &[&str] = if round < 3 { &["--create", "--time", "9"] } else { &["--create", "--time", "9", "--wait", "20"] };
+        let place =
+            if round % 2 == 0 { missing("create-many") } else { Place::new("create-many", b"", &small_batch()) };
+        let words: &[&str] =
+            if round < 3 { &["--create", "--time", "9"] } else { &["--create", "--time", "9", "--wait", "20"] };
         let statuses: Vec<i32> = std::thread::scope(|scope| {
             let runs: Vec<_> = (0..8).map(|_| scope.spawn(|| place.append(words).status)).collect();
             runs.into_iter().map(|run| run.join().expect("no panic")).collect()
@@ -120,7 +126,11 @@ fn a_dry_run_writes_nothing() {
     assert!(ran.json().ends_with(",\"removed\":150,\"time\":9,\"dry_run\":true}"), "{}", ran.json());
     let ran = rvf(&["retire", text(&place.file), "5", "--dry-run"]);
     assert!(ran.text().contains("\nwould retire segment 5: VEC, 128 bytes, time 3000 "), "{}", ran.text());
-    assert!(ran.text().ends_with("\n150 bytes behind the old end would be gone\nnothing is written\n"), "{}", ran.text());
+    assert!(
+        ran.text().ends_with("\n150 bytes behind the old end would be gone\nnothing is written\n"),
+        "{}",
+        ran.text()
+    );
     assert!(bytes_of(&place.file) == sample("torn.rvf"));
     // What would be refused is refused.
     assert_eq!(rvf(&["retire", text(&place.file), "0", "--dry-run"]).status, 11);

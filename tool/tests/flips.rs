@@ -101,7 +101,8 @@ fn the_longest_tail_is_a_cut() {
     // Sixteen bodies with a byte more than a multiple of 64 each, in a batch of the longest length.
     let bytes = vec![3; 65_473];
     let last = vec![3; rvf::BATCH_LIMIT - 272 - 15 * bytes.len()];
-    let bodies: Vec<Body> = (0..16).map(|index| Body { bytes: if index < 15 { &bytes } else { &last }, ..empty }).collect();
+    let bodies: Vec<Body> =
+        (0..16).map(|index| Body { bytes: if index < 15 { &bytes } else { &last }, ..empty }).collect();
     let batch = rvf::batch(&bodies);
     assert_eq!(batch.len(), rvf::BATCH_LIMIT);
     let longest = appended(&file, &batch, &[], 2).expect("accepted");

@@ -18,7 +18,11 @@ fn limited(place: &Place, blocks: usize, ignoring: bool) -> Output {
     // No core file, should the signal leave one.
     let script = format!("ulimit -c 0; {trap}ulimit -f {blocks}; exec \"$0\" append \"$1\" \"$2\" --time {TIME}");
     let mut shell = Command::new("sh");
-    shell.args(["-c", &script, env!("CARGO_BIN_EXE_rvf")]).args([&place.file, &place.batch]).output().expect("the shell runs")
+    shell
+        .args(["-c", &script, env!("CARGO_BIN_EXE_rvf")])
+        .args([&place.file, &place.batch])
+        .output()
+        .expect("the shell runs")
 }
 
 /// An append that is to be stopped: the file before it and after it.

@@ -20,7 +20,8 @@ fn place(name: &str, file: &[u8]) -> Place {
 }
 
 const WHAT: &str = "14823104 bytes behind byte 4416 are lost, not cut short: 511 manifests among them, the newest is \
-                    manifest 1023 at byte 14774208\nrvf: the chain breaks at byte 4422: the flags 0x8000 are not allowed";
+                    manifest 1023 at byte 14774208\n\
+                    rvf: the chain breaks at byte 4422: the flags 0x8000 are not allowed";
 
 /// No answer, status 65, and a message that names the lost manifest and `rvf check`.
 fn must_be_unanswered(ran: &Ran, file: &str) {
@@ -46,7 +47,10 @@ fn nothing_old_is_handed_out() {
     // Whoever wants the older position says so, and is told what it is.
     let ran = rvf(&["get", file, "7", "--accept-older"]);
     assert_eq!((ran.status, ran.text()), (0, "vector 7, dim 3, dtype f32\n1 100 200\n"));
-    assert!(ran.stderr.starts_with(&format!("rvf: {file}: {WHAT}")) && ran.stderr.ends_with("\nrvf: this answer may be old\n"));
+    assert!(
+        ran.stderr.starts_with(&format!("rvf: {file}: {WHAT}"))
+            && ran.stderr.ends_with("\nrvf: this answer may be old\n")
+    );
     for words in [&["7"][..], &["7", "--component", "1"], &["--segment", "0"]] {
         let ran = rvf(&[&["get", file, "--accept-older", "--json"], words].concat());
         assert!(ran.status == 0 && ran.json().ends_with(",\"may_be_old\":true}"), "{}", ran.json());
@@ -67,7 +71,8 @@ fn list_prints_and_ends_with_65() {
     assert!(ran.text().contains("manifest 1 at 192, end 4416, "), "{}", ran.text());
     assert!(ran.stderr.starts_with(&format!("rvf: {file}: {WHAT}")), "{}", ran.stderr);
     let ran = rvf(&["list", file, "--json"]);
-    let lost = "\"lost\":{\"manifest\":1023,\"offset\":14774208,\"manifests\":511,\"end\":4416,\"bytes\":14823104,\"breaks\":4422,";
+    let lost = "\"lost\":{\"manifest\":1023,\"offset\":14774208,\"manifests\":511,\
+                \"end\":4416,\"bytes\":14823104,\"breaks\":4422,";
     assert!(ran.status == 65 && ran.json().contains(lost), "{}", ran.json());
 }
 
@@ -76,8 +81,10 @@ fn check_finds_a_fault() {
     let place = place("lost-check", &flipped());
     let ran = rvf(&["check", text(&place.file)]);
     assert_eq!((ran.status, ran.stderr.as_str()), (65, ""));
-    let fault = "\nFAULT  byte 4422: the chain breaks: the flags 0x8000 are not allowed (only 0x03c8 and parts of it)\n       \
-                 14823104 bytes behind byte 4416 are lost, not cut short: 511 manifests among them, the newest is manifest 1023 ";
+    let fault = "\nFAULT  byte 4422: the chain breaks: the flags 0x8000 are not allowed (only 0x03c8 and parts of it)\n";
+    let effect = "\n       14823104 bytes behind byte 4416 are lost, not cut short: 511 manifests among them, the newest is \
+                  manifest 1023 at byte 14774208\n";
+    assert!(ran.text().contains(effect), "{}", ran.text());
     assert!(ran.text().contains(fault), "{}", ran.text());
     assert!(ran.text().contains("\n1 fault, 0 remarks\nnext: 'rvf salvage "), "{}", ran.text());
     let json = rvf(&["check", text(&place.file), "--json"]);
@@ -87,7 +94,8 @@ fn check_finds_a_fault() {
     padded[4_692] ^= 4;
     put(&place.file, &padded);
     let ran = rvf(&["check", text(&place.file)]);
-    let fault = "FAULT  byte 4692: the chain breaks: padding of segment 3 at byte 4692 is not zero\n       9408 bytes behind byte 4416";
+    let fault = "FAULT  byte 4692: the chain breaks: padding of segment 3 at byte 4692 is not zero\n       \
+                 9408 bytes behind byte 4416";
     assert!(ran.status == 65 && ran.text().contains(fault), "{}", ran.text());
 }
 

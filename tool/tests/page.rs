@@ -40,7 +40,12 @@ fn must_print_what_it_shows(name: &str, least: usize) {
     let path = std::env::join_paths([program].into_iter().chain(std::env::split_paths(&path))).expect("a path");
     for (command, printed) in commands {
         let script = format!("exec 2>&1; {command}");
-        let ran = Command::new("sh").args(["-c", &script]).env("PATH", &path).current_dir(&folder).output().expect("it runs");
+        let ran = Command::new("sh")
+            .args(["-c", &script])
+            .env("PATH", &path)
+            .current_dir(&folder)
+            .output()
+            .expect("it runs");
         assert_eq!(String::from_utf8_lossy(&ran.stdout), printed, "$ {command}");
     }
 }

@@ -65,7 +65,10 @@ fn a_flipped_bit_loses_one_segment_at_most() {
         states_known += usize::from(segments(&new).iter().all(|segment| whole.contains(segment)));
     }
     // The rest hit the newest manifest, whose states are then not known.
-    assert!(tried > 6_000 && 10 * states_known > 9 * tried && all_kept > 2_000, "{states_known} and {all_kept} of {tried}");
+    assert!(
+        tried > 6_000 && 10 * states_known > 9 * tried && all_kept > 2_000,
+        "{states_known} and {all_kept} of {tried}"
+    );
 }
 
 /// Every manifest is damaged: the chain alone is left, and without one nothing at all.
@@ -130,7 +133,11 @@ LOST  segment 3 (META, live) at byte 4608: 14 bytes: its content hash differs
     let again = rvf(&["salvage", text(&new), text(&new)]);
     assert!(again.status == 74 && again.stderr.contains("exists already"), "{}", again.stderr);
     let (_, ran) = run("salvage-json", &file, &["--json"]);
-    assert!(ran.json().contains("\"lost\":[{\"id\":3,\"type\":7,\"name\":\"META\",\"offset\":4608,"), "{}", ran.json());
+    assert!(
+        ran.json().contains("\"lost\":[{\"id\":3,\"type\":7,\"name\":\"META\",\"offset\":4608,"),
+        "{}",
+        ran.json()
+    );
     let (new, ran) = run("salvage-nothing", b"no file of ours", &[]);
     assert!(ran.status == 65 && ran.stderr.contains("nothing to save") && !new.exists(), "{}", ran.stderr);
 }

@@ -115,7 +115,8 @@ fn root_at(file: &[u8], from: usize, place: usize) -> Option<LostManifest> {
     let root = file.get(place..place + ROOT).filter(|root| root.starts_with(b"RVM0"))?;
     let (offset, id, record, end) = (le64(root, 8), le64(root, 16), le64(root, 24), le64(root, 32));
     let room = record.checked_next_multiple_of(HEADER as u64)?.checked_add(HEADER as u64)?;
-    let stands = offset.checked_add(room) == Some(place as u64) && end == (place + ROOT) as u64 && offset >= from as u64;
+    let stands =
+        offset.checked_add(room) == Some(place as u64) && end == (place + ROOT) as u64 && offset >= from as u64;
     let right = stands && root[ROOT - 4..] == crc32c(&root[..ROOT - 4]).to_le_bytes();
     right.then_some(LostManifest { offset, end, id, root: true })
 }

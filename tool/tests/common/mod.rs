@@ -36,6 +36,16 @@ impl Ran {
     }
 }
 
+/// The lines of a refusal behind the first, without `rvf: `.
+#[track_caller]
+pub fn why(ran: &Ran, blamed: &Path, number: i32) -> Vec<String> {
+    assert_eq!((ran.status, ran.text()), (number, ""), "{}", ran.stderr);
+    let mut lines = ran.stderr.lines().map(|line| line.strip_prefix("rvf: ").expect("the program's name").to_string());
+    let first = lines.next().expect("a line");
+    assert!(first.starts_with(&format!("{}: refused {number}: ", blamed.display())), "{first}");
+    lines.collect()
+}
+
 pub fn program() -> Command {
     Command::new(env!("CARGO_BIN_EXE_rvf"))
 }
