@@ -5,7 +5,7 @@ use crate::failure::{Failure, DONE};
 use crate::files::{read_store, write_new};
 use crate::json::Json;
 use crate::lost::loss;
-use crate::refusals::{reading, Asked};
+use crate::refusals::{reading, Target};
 use crate::Answer;
 use rvf::{Component, Dtype};
 use std::path::Path;
@@ -19,10 +19,10 @@ struct Got {
 pub fn run(request: &Get, json: bool) -> Result<Answer, Failure> {
     let path = &request.file;
     let file = read_store(path)?;
-    let asked = request.wanted.asked();
-    let refused = |refusal| reading(path, &file, asked, refusal);
+    let target = request.wanted.target();
+    let refused = |refusal| reading(path, &file, target, refusal);
     // An old position sent as the present one is the worst answer there is: where batches are
-    // lost, nothing is answered unless the older position was asked for.
+    // lost, nothing is answered unless the older position will do.
     let loss = if rvf::open(&file).is_ok() { loss(&file).map_err(refused)? } else { None };
     if let Some(loss) = loss.as_ref().filter(|_| !request.accept_older) {
         return Err(loss.unanswered(path));
@@ -41,11 +41,11 @@ pub fn run(request: &Get, json: bool) -> Result<Answer, Failure> {
 }
 
 impl Wanted {
-    fn asked(&self) -> Asked {
+    fn target(&self) -> Target {
         match *self {
-            Wanted::Vector(id) => Asked::Vector(id),
-            Wanted::Component { id, index } => Asked::Component { id, index },
-            Wanted::Segment { id, .. } => Asked::Segment(id),
+            Wanted::Vector(id) => Target::Vector(id),
+            Wanted::Component { id, index } => Target::Component { id, index },
+            Wanted::Segment { id, .. } => Target::Segment(id),
         }
     }
 }

@@ -4,7 +4,7 @@ use crate::failure::{Failure, DONE, FAULTS};
 use crate::files::read_store;
 use crate::json::Json;
 use crate::lost::{loss, Loss};
-use crate::refusals::{reading, Asked};
+use crate::refusals::{reading, Target};
 use crate::walk::{content_hash, type_name, HEADER};
 use crate::Answer;
 use rvf::{Entry, Manifest, Refusal};
@@ -15,7 +15,7 @@ use std::path::Path;
 /// is an old one: it is printed, and the status says so.
 pub fn run(path: &Path, json: bool, named: bool) -> Result<Answer, Failure> {
     let file = read_store(path)?;
-    let listing = Listing::of(&file).map_err(|refusal| reading(path, &file, Asked::Directory, refusal))?;
+    let listing = Listing::of(&file).map_err(|refusal| reading(path, &file, Target::Directory, refusal))?;
     let heading = if named { format!("{}:\n", path.display()) } else { String::new() };
     let answer = Answer::of(json, || listing.json(), || heading + &listing.text());
     let (messages, status) = match &listing.loss {

@@ -12,23 +12,23 @@ use std::path::Path;
 
 /// What a reading call was told to find.
 #[derive(Clone, Copy, Debug)]
-pub enum Asked {
+pub enum Target {
     Directory,
     Vector(u64),
     Component { id: u64, index: u64 },
     Segment(u64),
 }
 
-pub fn reading(path: &Path, file: &[u8], asked: Asked, refusal: Refusal) -> Failure {
+pub fn reading(path: &Path, file: &[u8], target: Target, refusal: Refusal) -> Failure {
     let refused = Refused::of(path, refusal);
-    match (refusal, asked) {
+    match (refusal, target) {
         (Refusal::FileTooLong, _) => too_long(path, file.len() as u64),
         (Refusal::NoManifest, _) => absent(path, file, refused),
-        (Refusal::NotLive, Asked::Segment(id)) => not_live(path, file, id, refused),
-        (Refusal::NoVector, Asked::Vector(id) | Asked::Component { id, .. }) => {
-            no_vector(path, file, id, asked, refused)
+        (Refusal::NotLive, Target::Segment(id)) => not_live(path, file, id, refused),
+        (Refusal::NoVector, Target::Vector(id) | Target::Component { id, .. }) => {
+            no_vector(path, file, id, target, refused)
         }
-        _ => match bad_segment(file, asked, refusal) {
+        _ => match bad_segment(file, target, refusal) {
             Some(link) => refused.why(bad(&link, refusal)).next(bad_next(path, &link)),
             None => refused.next(format!("'rvf check {}' says what is wrong, and where", quoted(path))),
         },
@@ -62,9 +62,9 @@ fn not_live(path: &Path, file: &[u8], id: u64, refused: Refused) -> Refused {
     refused.why(why).next(next)
 }
 
-fn no_vector(path: &Path, file: &[u8], id: u64, asked: Asked, refused: Refused) -> Refused {
+fn no_vector(path: &Path, file: &[u8], id: u64, target: Target, refused: Refused) -> Refused {
     let path = quoted(path);
-    if let (Asked::Component { index, .. }, Ok(vector)) = (asked, rvf::vector(file, id)) {
+    if let (Target::Component { index, .. }, Ok(vector)) = (target, rvf::vector(file, id)) {
         let dim = vector.components().count();
         let why = format!("vector {id} has {dim} components, 0 to {}; {index} is none of them", dim - 1);
         return Refused { meaning: "the vector has no such component", ..refused }
@@ -92,12 +92,12 @@ pub fn entry(file: &[u8], id: u64) -> Option<Entry> {
 
 /// The segment that a refusal by 4 to 7 is about: the one that was to be read, or the first
 /// bad one in the order in which vectors are searched.
-fn bad_segment(file: &[u8], asked: Asked, refusal: Refusal) -> Option<Link> {
+fn bad_segment(file: &[u8], target: Target, refusal: Refusal) -> Option<Link> {
     let entries = rvf::entries(file).ok()?;
     let links = walk(file).links;
     let mut newest_first = links.into_iter().zip(entries).rev();
-    let bad = newest_first.find(|(link, entry)| match asked {
-        Asked::Segment(id) => entry.id == id,
+    let bad = newest_first.find(|(link, entry)| match target {
+        Target::Segment(id) => entry.id == id,
         _ => !entry.retired && link.kind == rvf::VEC && damage(file, link) == Some(refusal),
     });
     bad.map(|(link, _)| link)

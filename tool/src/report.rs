@@ -7,7 +7,7 @@ use crate::json::Json;
 use crate::list::manifest_json;
 use crate::lost::Loss;
 use crate::quote::quoted;
-use crate::refusals::{reading, Asked};
+use crate::refusals::{reading, Target};
 use crate::walk::Stop;
 use crate::Answer;
 use rvf::Manifest;
@@ -16,7 +16,7 @@ use std::path::Path;
 
 pub fn run(path: &Path, json: bool) -> Result<Answer, Failure> {
     let file = read_store(path)?;
-    let checked = check(&file).map_err(|refusal| reading(path, &file, Asked::Directory, refusal))?;
+    let checked = check(&file).map_err(|refusal| reading(path, &file, Target::Directory, refusal))?;
     let status = if checked.count(Weight::Fault) == 0 { DONE } else { FAULTS };
     Ok(Answer::of(json, || value(&checked), || text(path, &checked)).with_status(status))
 }

@@ -9,7 +9,7 @@ use crate::json::Json;
 use crate::manifests::ENTRIES;
 use crate::pieces::{find, Found, Piece};
 use crate::rebuild::rebuilt;
-use crate::refusals::{reading, Asked};
+use crate::refusals::{reading, Target};
 use crate::walk::type_name;
 use crate::Answer;
 use rvf::{Refusal, FILE_LIMIT};
@@ -42,7 +42,7 @@ pub fn run(path: &Path, to: &Path, json: bool) -> Result<Answer, Failure> {
 
 /// What is whole in a file, as a file of its own.
 pub fn salvage(path: &Path, file: &[u8], to: &Path, time: u64) -> Result<Salvaged, Failure> {
-    let lost = rvf::lost_behind(file).map_err(|refusal| reading(path, file, Asked::Directory, refusal))?;
+    let lost = rvf::lost_behind(file).map_err(|refusal| reading(path, file, Target::Directory, refusal))?;
     let found = find(file, &lost.map_or(Vec::new(), |lost| lost.manifests));
     if found.kept.is_empty() {
         let what = format!("{}: no segment in it is whole, so there is nothing to save", path.display());

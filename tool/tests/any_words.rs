@@ -65,8 +65,10 @@ fn any_file(random: &mut Random) {
         for words in ["list file", "check file", "get file 7", "get file --segment 2"] {
             run(&format!("{words} --json").split(' ').collect::<Vec<_>>());
         }
-        // An append waits for the disk, so it comes only now and then.
+        // What is written waits for the disk, so it comes only now and then.
         if round % 20 == 0 {
+            let _ = std::fs::remove_file("new");
+            run(&["salvage", "file", "new", "--json"]);
             run(&["append", "file", "batch", "--json"]);
         }
     }

@@ -3,7 +3,7 @@
 
 mod common;
 
-use common::stores::{pass_of, passes, six};
+use common::stores::{latest, batches, six};
 use common::{appended, cases::next_append, end_of, sample};
 use rvf::Body;
 
@@ -20,26 +20,26 @@ struct Figures {
     warned: usize,
 }
 
-/// Flips bits of a file, one at a time: all of them, or the one of each byte that `bits` picks.
-fn flip(file: &[u8], bits: impl Fn(usize) -> std::ops::Range<u8>) -> Figures {
+/// Flips every bit of a file, one at a time.
+fn flip(file: &[u8]) -> Figures {
     let mut figures = Figures::default();
-    let (opened, pass) = (rvf::open(file).map(|manifest| manifest.id), pass_of(file));
+    let (opened, newest) = (rvf::open(file).map(|manifest| manifest.id), latest(file));
     let mut flipped = file.to_vec();
     for at in 0..file.len() {
-        for bit in bits(at) {
+        for bit in 0..8 {
             flipped[at] ^= 1 << bit;
-            let answer = pass_of(&flipped);
+            let answer = latest(&flipped);
             let warned = rvf::lost_behind(&flipped).expect("it is within the limit").is_some();
             // Whatever opens as an older file, or has an older position, must be warned of.
             let as_before = rvf::open(&flipped).map(|manifest| manifest.id) == opened;
-            let right = as_before && answer == pass;
+            let right = as_before && answer == newest;
             assert!(right || answer.is_none() || warned, "byte {at}, bit {bit}: {answer:?}");
             assert!(as_before || warned || rvf::open(&flipped).is_err(), "byte {at}, bit {bit}");
             assert!(!(warned && as_before), "byte {at}, bit {bit}: nothing is lost");
             figures.flips += 1;
             figures.right += usize::from(right);
             figures.refused += usize::from(answer.is_none());
-            figures.older += usize::from(answer.is_some() && answer != pass);
+            figures.older += usize::from(answer.is_some() && answer != newest);
             figures.warned += usize::from(warned);
             flipped[at] ^= 1 << bit;
         }
@@ -47,30 +47,28 @@ fn flip(file: &[u8], bits: impl Fn(usize) -> std::ops::Range<u8>) -> Figures {
     figures
 }
 
-/// The file of the report: three passes that hold one id. A third of the flips bring an older
-/// position, and all of them are seen.
+/// Three batches that hold one id. A third of the flips bring an older position, and all of
+/// them are seen.
 #[test]
-fn every_flipped_bit_of_three_passes() {
+fn every_flipped_bit_of_three_batches() {
     let wanted = Figures { flips: 108_544, right: 70_021, refused: 1_915, older: 36_608, warned: 37_499 };
-    assert_eq!(flip(&passes(3), |_| 0..8), wanted);
+    assert_eq!(flip(&batches(3)), wanted);
 }
 
-/// Six batches, bodies that hold whole files among them: one bit of each byte in turn, and
-/// every bit of the last sixteen bytes before a boundary.
+/// Six batches, bodies that hold whole files among them.
 #[test]
-fn flipped_bits_of_six_batches() {
+fn every_flipped_bit_of_six_batches() {
     let files = six();
-    let file = files.last().expect("six");
-    let wanted = Figures { flips: 156_112, right: 139_383, refused: 687, older: 16_042, warned: 16_377 };
-    assert_eq!(flip(file, |at| if at % 64 < 48 { at as u8 % 8..at as u8 % 8 + 1 } else { 0..8 }), wanted);
+    let wanted = Figures { flips: 454_144, right: 406_325, refused: 1_915, older: 45_904, warned: 46_795 };
+    assert_eq!(flip(files.last().expect("six")), wanted);
 }
 
 /// The first batch has no older one behind it: each flip is right or refused, and where its
 /// manifest or what stands before it is damaged, that is told from a cut.
 #[test]
-fn every_flipped_bit_of_one_pass() {
+fn every_flipped_bit_of_one_batch() {
     let wanted = Figures { flips: 35_328, right: 133, refused: 35_195, older: 0, warned: 34_171 };
-    assert_eq!(flip(&passes(1), |_| 0..8), wanted);
+    assert_eq!(flip(&batches(1)), wanted);
 }
 
 /// Every cut of every batch, at every byte: nothing is lost.
@@ -86,7 +84,7 @@ fn no_cut_alarms() {
         }
         assert_eq!(rvf::lost_behind(&pair[1]), Ok(None));
     }
-    assert_eq!(cuts, files[6].len());
+    assert_eq!((cuts, files[6].len()), (56_768, 56_768));
 }
 
 /// The longest batch there is, on the fullest directory: cut by its last byte it is a cut, and

@@ -2,7 +2,7 @@
 
 mod common;
 
-use common::stores::passes;
+use common::stores::batches;
 use common::{bytes_of, folder, program, put, rvf, sample, sample_path, small_batch, text, Place};
 
 #[test]
@@ -99,7 +99,7 @@ retired segment 2: VEC, 128 bytes, time 2000 (1970-01-01 00:00:00 UTC)
 #[test]
 fn room_that_runs_out() {
     // A batch of one body brings two entries: 409 batches have 817 entries, one more 819.
-    let place = Place::new("room", &passes(409), &small_batch());
+    let place = Place::new("room", &batches(409), &small_batch());
     let before = rvf(&["retire", text(&place.file), "0"]);
     assert_eq!((before.status, before.stderr.as_str()), (0, ""));
     let ran = place.append(&["--json"]);

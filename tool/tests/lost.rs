@@ -2,15 +2,15 @@
 
 mod common;
 
-use common::stores::{body, pass_of, passes, position, ID};
+use common::stores::{body, latest, batches, position, ID};
 use common::{appended, bytes_of, put, rvf, sample, text, Place, Ran};
 
-/// A store of 512 passes with one bit flipped in the second batch's first header: by the rules
-/// it answers the position of the first pass.
+/// A store of 512 batches with one bit flipped in the second batch's first header: by the rules
+/// it answers the position of the first batch.
 fn flipped() -> Vec<u8> {
-    let mut file = passes(512);
+    let mut file = batches(512);
     file[4_423] ^= 0x80;
-    assert_eq!(pass_of(&file), Some(1.0));
+    assert_eq!(latest(&file), Some(1.0));
     file
 }
 
@@ -57,7 +57,7 @@ fn nothing_old_is_handed_out() {
         assert!(ran.stderr.ends_with("\nrvf: this answer may be old\n"));
     }
     // Where nothing is lost, the option changes nothing.
-    put(&place.file, &passes(3));
+    put(&place.file, &batches(3));
     let ran = rvf(&["get", file, "7", "--accept-older", "--json"]);
     assert!(ran.stderr.is_empty() && !ran.json().contains("may_be_old"), "{}", ran.json());
 }
@@ -130,11 +130,11 @@ fn nothing_is_appended_unless_the_tail_is_saved() {
     assert!(bytes_of(&tail(3)) == old[4_416..]);
 }
 
-/// A third of the flips in three passes that hold one id bring an older position; every
+/// A third of the flips in three batches that hold one id bring an older position; every
 /// hundredth of them is put to the program.
 #[test]
-fn three_passes_flipped() {
-    let clean = passes(3);
+fn three_batches_flipped() {
+    let clean = batches(3);
     let place = place("lost-three", &clean);
     let (mut tried, mut older) = (0, 0);
     for bit in (0..8 * clean.len()).step_by(937) {
@@ -145,7 +145,7 @@ fn three_passes_flipped() {
         let right = ran.text() == "vector 7, dim 3, dtype f32\n3 100 200\n";
         assert!(right && ran.status == 0 || ran.status != 0 && ran.text().is_empty(), "bit {bit}: {}", ran.text());
         tried += 1;
-        older += usize::from(pass_of(&file).is_some_and(|pass| pass < 3.0));
+        older += usize::from(latest(&file).is_some_and(|number| number < 3.0));
     }
     assert!(tried > 100 && 4 * older > tried && 5 * older < 2 * tried, "{older} of {tried}");
 }
@@ -153,8 +153,8 @@ fn three_passes_flipped() {
 /// A cut is no loss: the same words as before, status 0.
 #[test]
 fn a_cut_is_no_loss() {
-    let clean = passes(3);
-    let before = passes(2);
+    let clean = batches(3);
+    let before = batches(2);
     let place = place("lost-cut", &clean);
     for length in (before.len()..clean.len()).step_by(211).chain([clean.len() - 1]) {
         put(&place.file, &clean[..length]);

@@ -2,7 +2,7 @@
 
 mod common;
 
-use common::stores::{body, passes};
+use common::stores::{body, batches};
 use common::{appended, folder, put, rvf, sample, small_batch, text, why, Place};
 
 /// The id and which of the four reasons.
@@ -83,7 +83,7 @@ fn damaged_segments() {
 fn files_without_a_manifest() {
     let folder = folder("why-2");
     let clean = sample("clean.rvf");
-    let one = passes(1);
+    let one = batches(1);
     let flipped = |at: usize| {
         let mut file = one.clone();
         file[at] ^= 1;
@@ -158,7 +158,7 @@ fn files_without_a_manifest() {
 /// 1 and 12: the length or the count, the limit, and what to do.
 #[test]
 fn full_stores() {
-    let full = passes(512);
+    let full = batches(512);
     let place = Place::new("why-12", &full, &small_batch());
     let lines = why(&place.append(&[]), &place.file, 12);
     assert_eq!(lines[0], "with this batch the directory would have 1026 entries, it has at most 1024");

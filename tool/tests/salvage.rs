@@ -2,7 +2,7 @@
 
 mod common;
 
-use common::stores::{body, pass_of, passes, position, six};
+use common::stores::{body, latest, batches, position, six};
 use common::{appended, bytes_of, folder, put, rvf, sample, text, Ran};
 use rvf::Entry;
 use rvf_tool::salvage::{salvage, Salvaged};
@@ -59,7 +59,7 @@ fn a_flipped_bit_loses_one_segment_at_most() {
         assert_eq!(ids, wanted, "byte {at}");
         assert_eq!(found.lost.iter().map(|(piece, _)| piece.id).collect::<Vec<_>>(), Vec::from_iter(hit), "byte {at}");
         let newest = whole.iter().rev().find(|segment| segment.1 == rvf::VEC).map(|segment| segment.0);
-        assert_eq!(pass_of(&new), Some(if hit == newest { 5.0 } else { 6.0 }), "byte {at}");
+        assert_eq!(latest(&new), Some(if hit == newest { 5.0 } else { 6.0 }), "byte {at}");
         tried += 1;
         all_kept += usize::from(hit.is_none());
         states_known += usize::from(segments(&new).iter().all(|segment| whole.contains(segment)));
@@ -74,7 +74,7 @@ fn a_flipped_bit_loses_one_segment_at_most() {
 /// Every manifest is damaged: the chain alone is left, and without one nothing at all.
 #[test]
 fn without_a_whole_manifest() {
-    let mut file = passes(3);
+    let mut file = batches(3);
     for entry in rvf::entries(&file).expect("it opens").iter().filter(|entry| entry.kind == rvf::MANIFEST) {
         file[(entry.offset + 64 + entry.length) as usize - 4] ^= 1;
     }
@@ -83,7 +83,7 @@ fn without_a_whole_manifest() {
     assert!(rvf::open(&file).is_err());
     let Salvaged { new, found, id } = salvaged(&file);
     assert_eq!((found.kept.len(), found.states, id), (3, None, 6));
-    assert_eq!(pass_of(&new), Some(3.0));
+    assert_eq!(latest(&new), Some(3.0));
     for nothing in [&b""[..], b"no file of ours", &[0; 10_000]] {
         assert!(salvage(Path::new("old"), nothing, Path::new("new"), 9).is_err());
     }
@@ -92,13 +92,13 @@ fn without_a_whole_manifest() {
 /// A store that is full of manifests has room again.
 #[test]
 fn one_manifest_for_all_batches() {
-    let full = passes(512);
+    let full = batches(512);
     let new = salvaged(&full).new;
-    assert_eq!((rvf::open(&new).map(|manifest| manifest.count), pass_of(&new)), (Ok(512), Some(512.0)));
+    assert_eq!((rvf::open(&new).map(|manifest| manifest.count), latest(&new)), (Ok(512), Some(512.0)));
     let next = position(513);
     let batch = rvf::batch(&[body(rvf::VEC, &next)]);
     assert_eq!(appended(&full, &batch, &[], 1).err(), Some(rvf::Refusal::DirectoryFull));
-    assert_eq!(appended(&new, &batch, &[], 1).map(|file| pass_of(&file)), Ok(Some(513.0)));
+    assert_eq!(appended(&new, &batch, &[], 1).map(|file| latest(&file)), Ok(Some(513.0)));
     assert!(10 * new.len() < full.len(), "{} of {}", new.len(), full.len());
 }
 

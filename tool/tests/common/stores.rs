@@ -3,12 +3,12 @@
 use super::{appended, sample};
 use rvf::{Body, Dtype, Encoding, Vectors};
 
-/// The one vector that every pass holds.
+/// The one vector that every batch holds.
 pub const ID: u64 = 7;
 
-/// A payload with one position, which tells the pass.
-pub fn position(pass: u16) -> Vec<u8> {
-    let columns: Vec<u8> = [f32::from(pass), 100.0, 200.0].iter().flat_map(|value| value.to_le_bytes()).collect();
+/// A payload with one position, which tells the batch's number.
+pub fn position(number: u16) -> Vec<u8> {
+    let columns: Vec<u8> = [f32::from(number), 100.0, 200.0].iter().flat_map(|value| value.to_le_bytes()).collect();
     let input = Vectors { ids: &[ID], columns: &columns, dim: 3, dtype: Dtype::F32, tier: 0, encoding: Encoding::Raw };
     rvf::vectors(&input).expect("the input is right")
 }
@@ -17,21 +17,21 @@ pub fn body(kind: u8, bytes: &[u8]) -> Body<'_> {
     Body { kind, flags: 0, bytes }
 }
 
-/// A store of so many passes, each a batch of one position.
-pub fn passes(count: u16) -> Vec<u8> {
+/// A store of so many batches of one position each.
+pub fn batches(count: u16) -> Vec<u8> {
     let mut buffer = vec![0; rvf::FILE_LIMIT];
     let mut length = 0;
-    for pass in 1..=count {
-        let payload = position(pass);
+    for number in 1..=count {
+        let payload = position(number);
         let batch = rvf::batch(&[body(rvf::VEC, &payload)]);
-        length = rvf::append(&mut buffer, length, &batch, &[], pass.into()).expect("there is room").end as usize;
+        length = rvf::append(&mut buffer, length, &batch, &[], number.into()).expect("there is room").end as usize;
     }
     buffer.truncate(length);
     buffer
 }
 
-/// The position that a file answers, as the pass that it is of.
-pub fn pass_of(file: &[u8]) -> Option<f32> {
+/// The position that a file answers, as the number of the batch that it is of.
+pub fn latest(file: &[u8]) -> Option<f32> {
     match rvf::vector(file, ID).ok()?.components().next()? {
         rvf::Component::F32(value) => Some(value),
         other => panic!("{other:?}"),
