@@ -101,7 +101,8 @@ impl Plan {
             ("manifest", Json::Number(id)),
             ("entries", Json::Number(count)),
             ("end", Json::Number(end)),
-            ("retired", Json::List(self.retired.iter().map(retired).collect())),
+            ("retired", Json::numbers(self.retired.iter().map(|(entry, _)| entry.id))),
+            ("retired_segments", Json::List(self.retired.iter().map(retired).collect())),
             ("removed", Json::Number(self.removed as u64)),
             ("time", Json::Number(self.time)),
         ];

@@ -35,7 +35,7 @@ fn what_is_accepted_is_what_the_binding_makes() {
 fn what_is_told() {
     let place = Place::new("told", &sample("torn.rvf"), &small_batch());
     let ran = place.append(&["--retire", "5", "--time", "9", "--retire", "2", "--json"]);
-    let wanted = "{\"segments\":[7,8],\"manifest\":9,\"entries\":9,\"end\":18752,\"retired\":[\
+    let wanted = "{\"segments\":[7,8],\"manifest\":9,\"entries\":9,\"end\":18752,\"retired\":[5,2],\"retired_segments\":[\
                   {\"id\":5,\"type\":1,\"name\":\"VEC\",\"length\":128,\"time\":3000},\
                   {\"id\":2,\"type\":1,\"name\":\"VEC\",\"length\":128,\"time\":2000}],\"removed\":150,\"time\":9}";
     assert_eq!((ran.status, ran.json()), (0, wanted));
