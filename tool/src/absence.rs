@@ -30,20 +30,20 @@ pub enum Absence {
 impl Absence {
     pub fn of(file: &[u8], walk: &Walk, loss: Option<&Loss>) -> Absence {
         let first_header = walk.links.is_empty();
-        if let Some(loss) = loss {
-            let lost = Some(loss.what());
-            return Absence::Damaged { first_header, at: loss.at, why: loss.why.clone(), lost };
-        }
         let rest = &file[walk.stopped..];
         // As far as there are bytes, they begin a header.
         let begins = rest.iter().zip(b"RVFS").all(|(one, other)| one == other);
-        match walk.why {
+        let foreign = first_header && !begins && loss.is_none_or(|loss| loss.lost.manifests.is_empty());
+        match (walk.why, loss) {
             _ if file.is_empty() => Absence::Empty,
-            Stop::FileEnd => Absence::Cut { length: file.len() },
-            Stop::Room { .. } if begins => Absence::Cut { length: file.len() },
-            Stop::PastEnd { end, .. } if end <= FILE_LIMIT as u128 => Absence::Cut { length: file.len() },
-            _ if first_header && !begins => Absence::Foreign { front: file[..file.len().min(4)].to_vec() },
-            why => Absence::Damaged { first_header, at: why.byte(walk.stopped), why: why.to_string(), lost: None },
+            _ if foreign => Absence::Foreign { front: file[..file.len().min(4)].to_vec() },
+            (_, Some(loss)) => {
+                Absence::Damaged { first_header, at: loss.at, why: loss.why.clone(), lost: Some(loss.what()) }
+            }
+            (Stop::FileEnd, None) => Absence::Cut { length: file.len() },
+            (Stop::Room { .. }, None) if begins => Absence::Cut { length: file.len() },
+            (Stop::PastEnd { end, .. }, None) if end <= FILE_LIMIT as u128 => Absence::Cut { length: file.len() },
+            (why, None) => Absence::Damaged { first_header, at: why.byte(walk.stopped), why: why.to_string(), lost: None },
         }
     }
 

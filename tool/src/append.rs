@@ -20,9 +20,7 @@ use std::time::{SystemTime, UNIX_EPOCH};
 
 pub fn run(request: &Append, json: bool, stdin: &mut dyn Read) -> Result<Answer, Failure> {
     let path = &request.file;
-    if !exists(path)? && !request.create {
-        return Err(Failure::Input(format!("{}: no such file; to start a new one, add --create", path.display())));
-    }
+    exists(request)?;
     // The batch comes before the lock: standard input may take long, and a lock should not.
     let batch = batch(request, stdin)?;
     let time = request.time.unwrap_or_else(now);
@@ -40,13 +38,14 @@ pub fn run(request: &Append, json: bool, stdin: &mut dyn Read) -> Result<Answer,
 /// file than it did.
 fn append(request: &Append, batch: &[u8], time: u64) -> Result<Option<(Plan, Done)>, Failure> {
     let path = &request.file;
-    let mut held = if exists(path)? && !request.dry_run { Some(open(request)?) } else { None };
+    let exists = exists(request)?;
+    let mut held = if exists && !request.dry_run { Some(open(request)?) } else { None };
     if held.as_ref().is_some_and(|file| !still_named(path, file)) {
         return Ok(None);
     }
     let file = match &held {
         Some(held) => read_whole(path, held, FILE_LIMIT)?,
-        None if exists(path)? => read_store(path)?,
+        None if exists => read_store(path)?,
         None => Vec::new(),
     };
     let plan = plan(request, &file, batch, time)?;
@@ -95,11 +94,16 @@ fn save(path: &Path, tail: &[u8]) -> Result<PathBuf, Failure> {
     Ok(free)
 }
 
-/// Whether there is such a file; anything else of this name cannot be appended to.
-fn exists(path: &Path) -> Result<bool, Failure> {
+/// Whether there is such a file; anything else of this name cannot be appended to, and where
+/// there is none, one must be wished for.
+fn exists(request: &Append) -> Result<bool, Failure> {
+    let path = &request.file;
     match fs::metadata(path) {
         Ok(metadata) => must_be_regular(path, &metadata).map(|()| true),
-        Err(error) if error.kind() == ErrorKind::NotFound => Ok(false),
+        Err(error) if error.kind() == ErrorKind::NotFound && request.create => Ok(false),
+        Err(error) if error.kind() == ErrorKind::NotFound => {
+            Err(Failure::Input(format!("{}: no such file; to start a new one, add --create", path.display())))
+        }
         Err(error) => Err(Failure::unreadable(path, &error)),
     }
 }

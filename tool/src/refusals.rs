@@ -107,7 +107,7 @@ fn bad(link: &Link, refusal: Refusal) -> String {
     format!("segment {} ({}) at byte {}: {}", link.id, type_name(link.kind), link.offset, broken(refusal))
 }
 
-/// First the way that brings the present position back, then the one that brings an older.
+/// The way that brings the present position back; the check tells the one that brings an older.
 fn bad_next(path: &Path, link: &Link) -> String {
     let (file, id) = (quoted(path), link.id);
     match link.kind {

@@ -89,12 +89,18 @@ fn files_without_a_manifest() {
         file[at] ^= 1;
         file
     };
-    let cases: [(&str, Vec<u8>, &str, &str); 9] = [
+    let cases: [(&str, Vec<u8>, &str, &str); 10] = [
         ("empty", Vec::new(), "the file is empty", "BATCH' starts a store in it"),
         (
             "text",
             b"hello, world\n".to_vec(),
             "this is not an RVF file: it begins with 68 65 6c 6c, not 52 56 46 53",
+            "name another file",
+        ),
+        (
+            "many zeros",
+            vec![0; 5_000_000],
+            "this is not an RVF file: it begins with 00 00 00 00",
             "name another file",
         ),
         ("zeros", vec![0; 5_000], "this is not an RVF file: it begins with 00 00 00 00", "name another file"),
