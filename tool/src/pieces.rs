@@ -1,9 +1,9 @@
-//! What is whole in a damaged file. The newest manifest that is whole names every segment
+//! What is whole in a damaged file. The newest directory that is whole names every segment
 //! before it, with its hash; behind it there are headers to go by, and the directories of
 //! manifests that are damaged themselves.
 
 use crate::check::broken;
-use crate::manifests::{whole_alone, ENTRIES, ENTRY, RECORD_HEAD};
+use crate::manifests::{directory_whole, ENTRIES, ENTRY, RECORD_HEAD};
 use crate::walk::{content_hash, le16, le32, le64, segment_at, Link, HEADER};
 use rvf::{LostManifest, Refusal, MANIFEST};
 use std::collections::HashSet;
@@ -65,8 +65,10 @@ pub struct Found {
     pub kept: Vec<Piece>,
     /// Segments that are not whole, and why.
     pub lost: Vec<(Piece, String)>,
-    /// The manifest whose states hold, and how many bytes of the file it speaks of.
+    /// The manifest whose states hold, and where it ends.
     pub states: Option<(u64, usize)>,
+    /// Manifests behind it whose directory is not whole: what they retired is not known.
+    pub unread: Vec<u64>,
     /// Manifests that are not copied.
     pub manifests: usize,
     pub highest_id: Option<u64>,
@@ -80,7 +82,7 @@ pub fn find(file: &[u8], lost: &[LostManifest]) -> Found {
     let own = rvf::open(file).ok();
     let own = own.map(|own| LostManifest { offset: own.offset, end: own.end, id: own.id, root: true });
     let newest_first = lost.iter().rev().copied().chain(own);
-    let from = match newest_first.map(as_link).find(|link| whole_alone(file, link)) {
+    let from = match newest_first.map(as_link).find(|link| directory_whole(file, link)) {
         Some(manifest) => {
             entries(file, manifest.offset).into_iter().for_each(|piece| found.judge(file, piece));
             found.judge(file, Piece::of_link(file, &manifest));
@@ -92,6 +94,7 @@ pub fn find(file: &[u8], lost: &[LostManifest]) -> Found {
     found.walk(file, from);
     // Behind a break: what damaged manifests name, if the header there says the same.
     for manifest in lost.iter().filter(|manifest| manifest.offset as usize >= from) {
+        found.unread.push(manifest.id);
         for piece in entries(file, manifest.offset as usize).into_iter().filter(|piece| piece.offset >= from) {
             let said = segment_at(file, piece.offset, None).map(|link| Piece::of_link(file, &link));
             if said.is_ok_and(|said| Piece { retired: piece.retired, ..said } == piece) {
@@ -104,7 +107,7 @@ pub fn find(file: &[u8], lost: &[LostManifest]) -> Found {
     found
 }
 
-/// A manifest as its root has it: its header may be damaged but for the hash.
+/// A manifest as its root or its header has it: one of them may be damaged, but for the hash.
 fn as_link(manifest: LostManifest) -> Link {
     let (offset, end) = (manifest.offset as usize, manifest.end as usize);
     Link { offset, end, id: manifest.id, length: end - offset - HEADER, kind: MANIFEST, flags: 0 }

@@ -1,6 +1,6 @@
 //! A file put together from segments of another: each as it was, and one manifest behind them.
 
-use crate::manifests::{payload_length, ENTRY, RECORD_HEAD, ROOT};
+use crate::manifests::{payload_length, root, ENTRY, RECORD_HEAD, ROOT};
 use crate::pieces::Piece;
 use crate::walk::{content_hash, HEADER};
 use rvf::MANIFEST;
@@ -21,16 +21,8 @@ pub fn rebuilt(file: &[u8], pieces: &[Piece], id: u64, time: u64) -> Vec<u8> {
     }
     let offset = new.len();
     let end = offset + HEADER + payload.len();
-    let used = (RECORD_HEAD + ENTRY * pieces.len()) as u64;
     let place = payload.len() - ROOT;
-    let root = &mut payload[place..];
-    root[..5].copy_from_slice(b"RVM0\x01");
-    root[6..8].copy_from_slice(&(pieces.len() as u16).to_le_bytes());
-    for (field, number) in [(8, offset as u64), (16, id), (24, used), (32, end as u64)] {
-        root[field..field + 8].copy_from_slice(&number.to_le_bytes());
-    }
-    let crc = rvf::crc32c(&root[..ROOT - 4]);
-    root[ROOT - 4..].copy_from_slice(&crc.to_le_bytes());
+    payload[place..].copy_from_slice(&root(offset, end, id, pieces.len()));
     let hash = content_hash(&payload);
     let manifest = Piece { offset, id, length: payload.len(), kind: MANIFEST, flags: 0, retired: false, time, hash };
     put(&mut new, &header(&manifest, &payload), &payload);

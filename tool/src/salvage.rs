@@ -99,12 +99,13 @@ impl Report<'_> {
         self.salvaged.found.kept.iter().filter(|piece| piece.offset >= end).count()
     }
 
+    /// Whether every segment is there, with its state.
     fn complete(&self) -> bool {
-        self.salvaged.found.lost.is_empty() && self.unstated() == 0
+        self.salvaged.found.lost.is_empty() && self.salvaged.found.unread.is_empty() && self.unstated() == 0
     }
 
     fn text(&self, path: &Path) -> String {
-        let Found { kept, lost, manifests, states, .. } = &self.salvaged.found;
+        let Found { kept, lost, manifests, states, unread, .. } = &self.salvaged.found;
         let mut text = String::new();
         for piece in kept {
             let _ = writeln!(text, "kept  {}, time {}", words(piece), date::shown(piece.time));
@@ -114,10 +115,12 @@ impl Report<'_> {
         }
         let unstated = self.unstated();
         if unstated > 0 {
-            let from = states.map_or("no manifest is whole".to_string(), |(id, _)| {
-                format!("manifest {id} is the last that is whole")
-            });
-            let _ = writeln!(text, "{from}: {unstated} of these taken as live; what was retired later is not known");
+            let _ = writeln!(text, "{unstated} of these are in no directory that is whole, and taken as live");
+        }
+        if !unread.is_empty() {
+            let ids = unread.iter().map(u64::to_string).collect::<Vec<_>>().join(", ");
+            let states = states.map_or("all are live".to_string(), |(id, _)| format!("states are of manifest {id}"));
+            let _ = writeln!(text, "damaged directory of manifest {ids}: what it retired is not known; {states}");
         }
         let bytes = self.file.len();
         let _ = writeln!(
@@ -148,6 +151,7 @@ impl Report<'_> {
             ("lost", Json::List(self.salvaged.found.lost.iter().map(lost).collect())),
             ("states", Json::maybe(self.salvaged.found.states.map(|(id, _)| id))),
             ("unstated", Json::Number(self.unstated() as u64)),
+            ("unread", Json::numbers(self.salvaged.found.unread.iter().copied())),
             ("manifests", Json::Number(self.salvaged.found.manifests as u64)),
             ("to", Json::text(self.to.display().to_string())),
             ("manifest", Json::Number(self.salvaged.id)),

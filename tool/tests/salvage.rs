@@ -46,6 +46,7 @@ fn a_flipped_bit_loses_one_segment_at_most() {
     let file = six().pop().expect("six");
     let whole = segments(&file);
     let entries: Vec<Entry> = rvf::entries(&file).expect("it opens");
+    let manifest = rvf::open(&file).expect("it opens").id;
     let (mut tried, mut all_kept, mut states_known) = (0, 0, 0);
     for bit in (0..8 * file.len()).step_by(61) {
         let at = bit as u64 / 8;
@@ -60,33 +61,48 @@ fn a_flipped_bit_loses_one_segment_at_most() {
         assert_eq!(found.lost.iter().map(|(piece, _)| piece.id).collect::<Vec<_>>(), Vec::from_iter(hit), "byte {at}");
         let newest = whole.iter().rev().find(|segment| segment.1 == rvf::VEC).map(|segment| segment.0);
         assert_eq!(latest(&new), Some(if hit == newest { 5.0 } else { 6.0 }), "byte {at}");
+        // A state is as it was, or it is said that it may not be.
+        let known = segments(&new).iter().all(|segment| whole.contains(segment));
+        assert!(known || found.unread == [manifest], "byte {at}: {:?}", found.unread);
         tried += 1;
         all_kept += usize::from(hit.is_none());
-        states_known += usize::from(segments(&new).iter().all(|segment| whole.contains(segment)));
+        states_known += usize::from(found.unread.is_empty());
     }
-    // The rest hit the newest manifest, whose states are then not known.
-    assert!(
-        tried > 6_000 && 10 * states_known > 9 * tried && all_kept > 2_000,
-        "{states_known} and {all_kept} of {tried}"
-    );
+    // The rest hit the newest directory or its hash; a root is made anew.
+    let figures = format!("{states_known} and {all_kept} of {tried}");
+    assert!(tried > 6_000 && 100 * states_known > 98 * tried && states_known < tried, "{figures}");
+    assert!(all_kept > 2_000, "{figures}");
 }
 
-/// Every manifest is damaged: the chain alone is left, and without one nothing at all.
+/// Every directory is damaged: the chain alone is left, and without one nothing at all.
 #[test]
-fn without_a_whole_manifest() {
+fn without_a_whole_directory() {
     let mut file = batches(3);
-    for entry in rvf::entries(&file).expect("it opens").iter().filter(|entry| entry.kind == rvf::MANIFEST) {
-        file[(entry.offset + 64 + entry.length) as usize - 4] ^= 1;
+    let manifest = rvf::open(&file).expect("it opens").offset;
+    let older = rvf::entries(&file).expect("it opens").into_iter().filter(|entry| entry.kind == rvf::MANIFEST);
+    for offset in older.map(|entry| entry.offset).chain([manifest]) {
+        file[offset as usize + 64 + 8] ^= 1;
     }
-    let newest = file.len() - 4;
-    file[newest] ^= 1;
     assert!(rvf::open(&file).is_err());
     let Salvaged { new, found, id } = salvaged(&file);
     assert_eq!((found.kept.len(), found.states, id), (3, None, 6));
-    assert_eq!(latest(&new), Some(3.0));
+    assert_eq!((found.unread.as_slice(), latest(&new)), (&[1, 3, 5][..], Some(3.0)));
     for nothing in [&b""[..], b"no file of ours", &[0; 10_000]] {
         assert!(salvage(Path::new("old"), nothing, Path::new("new"), 9).is_err());
     }
+}
+
+/// Every root is damaged: the directories are whole, and so are the states.
+#[test]
+fn without_a_whole_root() {
+    let mut file = sample("clean.rvf");
+    for end in [4_416, 9_152, 13_824] {
+        file[end - 2] ^= 1;
+    }
+    assert!(rvf::open(&file).is_err());
+    let Salvaged { new, found, .. } = salvaged(&file);
+    assert_eq!(segments(&new), segments(&sample("clean.rvf")));
+    assert!(found.lost.is_empty() && found.unread.is_empty());
 }
 
 /// A store that is full of manifests has room again.
@@ -142,14 +158,21 @@ LOST  segment 3 (META, live) at byte 4608: 14 bytes: its content hash differs
     assert!(ran.status == 65 && ran.stderr.contains("nothing to save") && !new.exists(), "{}", ran.stderr);
 }
 
-/// The newest manifest is damaged: what it retired is not known, and that is said.
+/// The newest directory is damaged: what it retired is not known, and that is said.
 #[test]
 fn states_that_are_not_known() {
-    let mut file = sample("clean.rvf");
-    file[13_822] ^= 1;
+    let file = sample("flipped_manifest.rvf");
     let (new, ran) = run("salvage-states", &file, &[]);
     assert_eq!(ran.status, 65);
-    let said = "manifest 4 is the last that is whole: 1 of these taken as live; what was retired later is not known\n";
+    let said = "\n1 of these are in no directory that is whole, and taken as live\n\
+                damaged directory of manifest 6: what it retired is not known; states are of manifest 4\n";
     assert!(ran.text().contains(said), "{}", ran.text());
     assert_eq!(rvf(&["get", text(&new), "30"]).text(), "vector 30, dim 3, dtype f32\n3 103 203\n");
+    // A batch that only retires has no segment behind it, and its loss is said too.
+    let mut file = appended(&sample("clean.rvf"), &rvf::batch(&[]), &[5], 4_000).expect("accepted");
+    let directory = rvf::open(&file).expect("it opens").offset as usize + 64 + 8 + 48 * 5 + 41;
+    file[directory] ^= 1;
+    let (_, ran) = run("salvage-retired", &file, &[]);
+    let said = "\ndamaged directory of manifest 7: what it retired is not known; states are of manifest 6\n";
+    assert!(ran.status == 65 && ran.text().contains(said), "{}", ran.text());
 }
