@@ -56,7 +56,7 @@ impl Listing {
 
     fn text(&self) -> String {
         let head = ["id", "type", "offset", "length", "state", "check"].map(str::to_string);
-        let rows = self.entries.iter().map(|(entry, whole)| row(entry, state(entry), *whole));
+        let rows = self.entries.iter().map(|(entry, whole)| row(entry, state(entry.retired), *whole));
         // The file's own manifest is confirmed, so its hash agrees.
         let Manifest { id, offset, end, tried, .. } = self.manifest;
         let length = end - offset - HEADER as u64;
@@ -79,7 +79,7 @@ impl Listing {
                 ("flags", Json::Number(entry.flags.into())),
                 ("offset", Json::Number(entry.offset)),
                 ("length", Json::Number(entry.length)),
-                ("state", Json::text(state(entry))),
+                ("state", Json::text(state(entry.retired))),
                 ("check", Json::text(verdict(*whole))),
             ])
         };
@@ -93,8 +93,8 @@ impl Listing {
     }
 }
 
-fn state(entry: &Entry) -> &'static str {
-    if entry.retired { "retired" } else { "live" }
+pub fn state(retired: bool) -> &'static str {
+    if retired { "retired" } else { "live" }
 }
 
 fn verdict(whole: bool) -> &'static str {

@@ -6,6 +6,7 @@ use crate::failure::{Failure, Refused, DONE, FAULTS};
 use crate::files::read_store;
 use crate::first::{put, Put};
 use crate::json::Json;
+use crate::list::state;
 use crate::manifests::ENTRIES;
 use crate::pieces::{find, Found, Piece};
 use crate::rebuild::rebuilt;
@@ -160,13 +161,9 @@ impl Report<'_> {
     }
 }
 
-fn state(piece: &Piece) -> &'static str {
-    if piece.retired { "retired" } else { "live" }
-}
-
 fn words(piece: &Piece) -> String {
-    let Piece { id, kind, offset, length, .. } = *piece;
-    format!("segment {id} ({}, {}) at byte {offset}: {length} bytes", type_name(kind), state(piece))
+    let Piece { id, kind, offset, length, retired, .. } = *piece;
+    format!("segment {id} ({}, {}) at byte {offset}: {length} bytes", type_name(kind), state(retired))
 }
 
 fn members(piece: &Piece) -> Vec<(&'static str, Json)> {
@@ -176,7 +173,7 @@ fn members(piece: &Piece) -> Vec<(&'static str, Json)> {
         ("name", Json::text(type_name(piece.kind))),
         ("offset", Json::Number(piece.offset as u64)),
         ("length", Json::Number(piece.length as u64)),
-        ("state", Json::text(state(piece))),
+        ("state", Json::text(state(piece.retired))),
         ("time", Json::Number(piece.time)),
     ]
 }

@@ -3,7 +3,7 @@
 
 mod common;
 
-use common::stores::{latest, batches, six};
+use common::stores::{batches, latest, six};
 use common::{appended, cases::next_append, end_of, sample};
 use rvf::Body;
 

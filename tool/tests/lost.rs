@@ -2,8 +2,10 @@
 
 mod common;
 
-use common::stores::{body, latest, batches, position, ID};
+use common::stores::{batches, body, latest, position, six, ID};
 use common::{appended, bytes_of, put, rvf, sample, text, Place, Ran};
+use rvf_tool::lost::loss;
+use rvf_tool::walk::walk;
 
 /// A store of 512 batches with one bit flipped in the second batch's first header: by the rules
 /// it answers the position of the first batch.
@@ -148,6 +150,32 @@ fn three_batches_flipped() {
         older += usize::from(latest(&file).is_some_and(|number| number < 3.0));
     }
     assert!(tried > 100 && 4 * older > tried && 5 * older < 2 * tried, "{older} of {tried}");
+}
+
+/// The byte that is named is the flipped one, where a rule speaks of it alone: every byte of
+/// padding, and the fields of a header that have fixed values.
+#[test]
+fn the_break_is_named_where_the_bit_is() {
+    let clean = six().pop().expect("six");
+    let (mut padding, mut fields) = (0, 0);
+    // The first batch has no older one: nothing is lost to it.
+    for link in walk(&clean).links.iter().skip(2).filter(|link| link.kind != rvf::MANIFEST) {
+        for at in (link.offset..link.offset + 64).chain(link.offset + 64 + link.length..link.end) {
+            let mut file = clean.clone();
+            file[at] ^= 0x10;
+            let lost = loss(&file).expect("within the limit");
+            let byte = at - link.offset;
+            if byte >= 64 {
+                assert_eq!(lost.map(|lost| lost.at), Some(at));
+                padding += 1;
+            } else if matches!(byte, 0..=4 | 6 | 32..=39 | 56..=63) {
+                let lost = lost.expect("batches are lost");
+                assert!((link.offset..=at).contains(&lost.at), "byte {at}: {} {}", lost.at, lost.why);
+                fields += 1;
+            }
+        }
+    }
+    assert_eq!((padding, fields), (90, 198));
 }
 
 /// A cut is no loss: the same words as before, status 0.

@@ -2,7 +2,7 @@
 
 mod common;
 
-use common::stores::{body, batches};
+use common::stores::{batches, body};
 use common::{appended, folder, put, rvf, sample, small_batch, text, why, Place};
 
 /// The id and which of the four reasons.

@@ -2,7 +2,7 @@
 
 mod common;
 
-use common::stores::{body, latest, batches, position, six};
+use common::stores::{batches, body, latest, position, six};
 use common::{appended, bytes_of, folder, put, rvf, sample, text, Ran};
 use rvf::Entry;
 use rvf_tool::salvage::{salvage, Salvaged};
