@@ -28,17 +28,17 @@ fn temporary(path: &Path) -> PathBuf {
 
 /// Puts bytes into a file that is not there, or is there and empty. A failure leaves none, or
 /// the empty one.
-pub fn put(path: &Path, bytes: &[u8], wait: Duration) -> Result<Put, Failure> {
+pub fn put(name: &Path, bytes: &[u8], wait: Duration) -> Result<Put, Failure> {
     // A link stays a link: the file that it names is the one to be replaced.
-    let path = &match fs::canonicalize(path) {
+    let path = &match fs::canonicalize(name) {
         Ok(target) => target,
-        Err(_) if fs::symlink_metadata(path).is_ok() => {
-            return Err(Failure::Input(format!("{}: is a link to a file that is not there", path.display())))
+        Err(_) if is_link(name) => {
+            return Err(Failure::Input(format!("{}: is a link to a file that is not there", name.display())))
         }
-        Err(_) => path.to_path_buf(),
+        Err(_) => name.to_path_buf(),
     };
     let temporary = temporary(path);
-    let mut file = open(path, &temporary, wait)?;
+    let mut file = open(name, &temporary, wait)?;
     // Whoever had the lock before may have put a first batch in place.
     let before = match fs::metadata(path) {
         Ok(metadata) if metadata.len() > 0 => {
@@ -52,16 +52,20 @@ pub fn put(path: &Path, bytes: &[u8], wait: Duration) -> Result<Put, Failure> {
         Some(permissions) => fs::set_permissions(&temporary, permissions.clone()),
         None => Ok(()),
     });
-    let taken_back = |error: io::Error, name: &Path| {
-        let _ = if name == path && before.is_some() { file.set_len(0) } else { fs::remove_file(name) };
+    let taken_back = |error: io::Error, written: &Path| {
+        let _ = if written == path && before.is_some() { file.set_len(0) } else { fs::remove_file(written) };
         let left = if before.is_some() { "the file is empty as before" } else { "no file was made" };
-        Failure::Io(format!("{}: writing failed: {error}; {left}", path.display()))
+        Failure::Io(format!("{}: writing failed: {error}; {left}", name.display()))
     };
     written.map_err(|error| taken_back(error, &temporary))?;
     fs::rename(&temporary, path).map_err(|error| taken_back(error, &temporary))?;
     flush_folder(path)
         .map_err(|failure| taken_back(io::Error::other(failure.messages().trim_end().to_string()), path))?;
     Ok(Put::Done)
+}
+
+fn is_link(path: &Path) -> bool {
+    fs::symlink_metadata(path).is_ok_and(|metadata| metadata.is_symlink())
 }
 
 /// The temporary file, locked. One that was renamed or removed while its lock was waited for
@@ -75,6 +79,10 @@ fn open(path: &Path, temporary: &Path, wait: Duration) -> Result<File, Failure> 
             }
             _ => Failure::broken(path, "cannot be created", &error),
         })?;
+        // Somebody else's file behind a link of this name is not to be emptied.
+        if is_link(temporary) {
+            return Err(Failure::Io(format!("{}: is a link in the way; remove it", temporary.display())));
+        }
         lock(path, &file, wait)?;
         if still_named(temporary, &file) {
             return Ok(file);

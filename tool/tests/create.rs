@@ -44,6 +44,13 @@ fn an_empty_file_stays_what_it_is() {
     assert!(std::fs::symlink_metadata(&link).expect("it is there").is_symlink());
     let mode = std::fs::metadata(&place.file).expect("it is there").permissions().mode();
     assert!(bytes_of(&place.file) == once() && mode & 0o777 == 0o640, "{mode:o}");
+    // Behind a link of the temporary file's name nothing is written.
+    let place = missing("create-link");
+    put(&place.file.with_file_name("mine"), b"mine");
+    std::os::unix::fs::symlink("mine", temporary(&place)).expect("a link");
+    let ran = place.append(&["--create"]);
+    assert!(ran.status == 74 && ran.stderr.contains("is a link in the way"), "{}", ran.stderr);
+    assert!(bytes_of(&place.file.with_file_name("mine")) == b"mine" && !place.file.exists());
     // A link that leads nowhere is not replaced.
     let nowhere = place.file.with_file_name("nowhere");
     std::os::unix::fs::symlink("gone", &nowhere).expect("a link");
