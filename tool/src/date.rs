@@ -38,7 +38,8 @@ mod tests {
     /// Every day follows the one before it.
     #[test]
     fn days_follow_one_another() {
-        let leap = |year: u64| year % 4 == 0 && (year % 100 != 0 || year % 400 == 0);
+        let every = |years: u64, year: u64| year.is_multiple_of(years);
+        let leap = |year: u64| every(4, year) && (!every(100, year) || every(400, year));
         let (mut year, mut month, mut day) = (1970, 1, 1);
         for days in 0..220_000 {
             assert_eq!(date(days), (year, month, day));

@@ -132,6 +132,22 @@ fn nothing_is_appended_unless_the_tail_is_saved() {
     assert!(bytes_of(&tail(3)) == old[4_416..]);
 }
 
+/// Where the tail cannot be saved, as on a full disk, nothing is removed.
+#[cfg(unix)]
+#[test]
+fn a_tail_that_cannot_be_saved_stays() {
+    let old = flipped();
+    let place = place("lost-full", &old);
+    let script = "trap '' XFSZ; ulimit -f 100; exec \"$0\" append \"$1\" \"$2\" --discard-tail";
+    let mut shell = std::process::Command::new("sh");
+    let words = ["-c", script, env!("CARGO_BIN_EXE_rvf"), text(&place.file), text(&place.batch)];
+    let ran = shell.args(words).output().expect("the shell runs");
+    assert_eq!(ran.status.code(), Some(74), "{}", String::from_utf8_lossy(&ran.stderr));
+    assert!(bytes_of(&place.file) == old);
+    let names = std::fs::read_dir(place.file.parent().expect("a folder")).expect("it is there").count();
+    assert_eq!(names, 2, "half a tail is left");
+}
+
 /// A third of the flips in three batches that hold one id bring an older position; every
 /// hundredth of them is put to the program.
 #[test]
