@@ -63,7 +63,10 @@ uint32_t rvf_vec_read(const uint8_t *payload, size_t len, uint64_t id, uint8_t *
                       uint64_t out[3]);
 
 /* The file's manifest: the last confirmed link of the chain from byte 0, found from the end. out: offset, end, id, number
- * of entries, boundaries tried. Refuses 1, then 2, which writes out[4], the boundaries tried, alone. */
+ * of entries, boundaries tried. Refuses 1, then 2, which writes out[4], the boundaries tried, alone. An end below len means that
+ * bytes lie behind: those of a batch that was cut short, or, where a whole manifest is among them, batches that damage has taken
+ * out of the chain, so that every answer may be old; look at them (`rvf check`, or lost_behind of the Rust binding) before you
+ * serve or append, since an append starts at the end and removes them. */
 uint32_t rvf_open(const uint8_t *file, size_t len, uint64_t out[5]);
 
 /* The entry with an index in the directory of the file's manifest. out: offset, id, payload length, hash bytes 0 to 7

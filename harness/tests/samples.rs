@@ -5,7 +5,17 @@ use rvf_harness::calls::{Calls, Reference};
 use std::path::{Path, PathBuf};
 use std::process::Command;
 
-const NAMES: [&str; 5] = ["worked.rvf", "clean.rvf", "torn.rvf", "damaged.rvf", "nested.rvf"];
+const NAMES: [&str; 9] = [
+    "worked.rvf",
+    "clean.rvf",
+    "torn.rvf",
+    "damaged.rvf",
+    "nested.rvf",
+    "restarts.rvf",
+    "flipped_padding.rvf",
+    "flipped_header.rvf",
+    "flipped_manifest.rvf",
+];
 
 fn root() -> PathBuf {
     Path::new(env!("CARGO_MANIFEST_DIR")).join("..")
@@ -87,6 +97,33 @@ fn nested_answers_from_the_outer_file_alone() {
     // Cut anywhere before its end, the inner manifests are not taken for the file's.
     for end in [nested.len() - 1, 64 + clean.len(), 64 + clean.len() / 2] {
         assert_eq!(rvf::open(&nested[..end]).map_err(Refusal::from).err(), Some(Refusal::NoManifest));
+    }
+}
+
+/// An id behind a restart is absolute; one that carries the difference on would be another.
+#[test]
+fn restarts_begin_anew() {
+    let file = sample("restarts.rvf");
+    let value = |id| position(&file, id);
+    assert_eq!([100, 105, 108, 120, 200].map(value), ["1", "2", "3", "4", "5"].map(|value| Ok(value.to_string())));
+    assert_eq!([213, 225, 425].map(value), [Err(Refusal::NoVector), Err(Refusal::NoVector), Err(Refusal::NoVector)]);
+}
+
+/// One bit each: an earlier manifest is the file's, and what lies behind it is lost, not cut.
+#[test]
+fn flipped_bits_lose_batches_that_can_be_told() {
+    let clean = sample("clean.rvf");
+    let cases = [("flipped_padding.rvf", 1, 2), ("flipped_header.rvf", 1, 2), ("flipped_manifest.rvf", 4, 1)];
+    for (name, manifest, lost) in cases {
+        let file = sample(name);
+        let changed: u32 = clean.iter().zip(&file).map(|(one, other)| (one ^ other).count_ones()).sum();
+        assert_eq!((file.len(), changed), (clean.len(), 1), "{name}");
+        assert_eq!(rvf::open(&file).map(|manifest| manifest.id), Ok(manifest), "{name}");
+        let behind = rvf::lost_behind(&file).expect("within the limit").expect("batches are lost");
+        assert_eq!((behind.manifests.len(), behind.newest().map(|newest| (newest.id, newest.offset))), (lost, Some((6, 9_344))));
+    }
+    for name in ["worked.rvf", "clean.rvf", "torn.rvf", "damaged.rvf", "nested.rvf", "restarts.rvf"] {
+        assert_eq!(rvf::lost_behind(&sample(name)), Ok(None), "{name}");
     }
 }
 

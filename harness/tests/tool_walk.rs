@@ -1,6 +1,7 @@
 //! The command-line tool walks through a file in plain Rust, to say why the chain stops and
 //! why a manifest is not confirmed. Here its links, manifests and faults are compared with
-//! the reference: a fault is found exactly where a reading call refuses.
+//! the reference: a fault is found exactly where a reading call refuses, but for the payload
+//! of an older manifest, or where batches are lost.
 
 use rvf_harness::gen::batches::{vector_file, vector_ids};
 use rvf_harness::gen::{damage, files, Rng};
@@ -36,19 +37,24 @@ fn searched_in_vain(file: &[u8]) -> Option<u32> {
     each.filter_map(Result::err).next()
 }
 
-/// The ids of the live segments whose payload is refused, by the reference.
+/// The ids of the live segments, older manifests aside, whose payload is refused, by the reference.
 fn refused_payloads(file: &[u8]) -> Vec<u64> {
     let Ok(opened) = manifest::open(file) else {
         return Vec::new();
     };
     let entries = manifest::directory(file, &opened).chunks_exact(manifest::ENTRY).map(manifest::Entry::read);
-    entries.map(|entry| entry.id).filter(|&id| store::payload(file, id) == Err(4)).collect()
+    let segments = entries.filter(|entry| entry.kind != segment::MANIFEST).map(|entry| entry.id);
+    segments.filter(|&id| store::payload(file, id) == Err(4)).collect()
 }
 
 /// What the check says, against what the calls do. Returns the number of a search.
 fn same_faults(rng: &mut Rng, file: &[u8]) -> u32 {
     let checked = check(file).expect("the file is within the limit");
-    let faults: Vec<_> = checked.findings.iter().filter(|finding| finding.weight == Weight::Fault).collect();
+    let faults = checked.findings.iter().filter(|finding| finding.weight == Weight::Fault);
+    // Lost batches are a fault that makes no call of the library refuse.
+    let (faults, lost): (Vec<_>, Vec<_>) = faults.partition(|fault| fault.refusal.is_some());
+    let opens = manifest::open(file).is_ok();
+    assert_eq!(!lost.is_empty(), opens && rvf::lost_behind(file).is_ok_and(|lost| lost.is_some()), "{lost:?}");
     let search = searched_in_vain(file).expect("some id is not held");
     let refused = refused_payloads(file);
     assert_eq!(faults.is_empty(), search == 8 && refused.is_empty(), "a search refuses {search}: {faults:?}");

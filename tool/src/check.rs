@@ -1,6 +1,9 @@
-//! What is wrong with a file. A fault makes calls refuse; a remark does not.
+//! What is wrong with a file. A fault makes calls refuse, or answer from before batches that
+//! are lost; a remark does neither.
 
-use crate::manifests::doubt;
+use crate::absence::Absence;
+use crate::lost::Loss;
+use crate::manifests::{doubt, Doubt};
 use crate::walk::{type_name, walk, Link, Walk};
 use rvf::{Entry, Manifest, OpenRefused, Refusal};
 
@@ -20,7 +23,7 @@ pub struct Finding {
     /// The number with which calls refuse because of it.
     pub refusal: Option<Refusal>,
     pub what: String,
-    /// What it means for those who read.
+    /// What it means for those who read, in lines.
     pub effect: String,
 }
 
@@ -31,6 +34,10 @@ pub struct Checked {
     pub walk: Walk,
     /// The file's manifest and its directory.
     pub manifest: Option<(Manifest, Vec<Entry>)>,
+    /// Batches behind the manifest's end that are lost, not cut short.
+    pub loss: Option<Loss>,
+    /// Why there is no manifest, where there is none.
+    pub absence: Option<Absence>,
     /// In the order of their offsets.
     pub findings: Vec<Finding>,
 }
@@ -49,23 +56,27 @@ pub fn check(file: &[u8]) -> Result<Checked, Refusal> {
         Err(refused) => return Err(refused.refusal),
     };
     let walk = walk(file);
-    let mut findings = match &manifest {
-        Some((manifest, entries)) => {
+    let loss = rvf::lost_behind(file)?.map(|lost| Loss::of(file, &walk, lost));
+    let absence = manifest.is_none().then(|| Absence::of(file, &walk, loss.as_ref()));
+    let mut findings = match (&manifest, &absence) {
+        (Some((manifest, entries)), _) => {
             // The directory is all links before the manifest.
             let mut findings = of_directory(file, &walk.links, entries);
-            findings.extend(behind(file, &walk.links, manifest));
+            findings.extend(behind(file, &walk.links, manifest, loss.as_ref()));
             findings
         }
-        None => without_manifest(file, &walk),
+        (None, Some(absence)) => without_manifest(file, &walk, absence),
+        (None, None) => Vec::new(),
     };
+    // What is behind the end of the file's manifest is lost or cut, and said to be so.
     let end = manifest.as_ref().map_or(usize::MAX, |(manifest, _)| manifest.end as usize);
     findings.extend(unconfirmed(file, &walk.links, end));
     findings.sort_by_key(|finding| finding.offset);
-    Ok(Checked { length: file.len(), walk, manifest, findings })
+    Ok(Checked { length: file.len(), walk, manifest, loss, absence, findings })
 }
 
 /// What a segment's content breaks, in the order in which calls look at it.
-fn damage(file: &[u8], link: &Link) -> Option<Refusal> {
+pub fn damage(file: &[u8], link: &Link) -> Option<Refusal> {
     if !link.whole(file) {
         return Some(Refusal::ContentHash);
     }
@@ -75,8 +86,10 @@ fn damage(file: &[u8], link: &Link) -> Option<Refusal> {
 fn of_directory(file: &[u8], links: &[Link], entries: &[Entry]) -> Vec<Finding> {
     let mut findings = Vec::new();
     let mut search = Search::default();
-    // A search for a vector goes from the newest segment to the oldest.
-    for (link, entry) in links.iter().zip(entries).rev() {
+    // A search for a vector goes from the newest segment to the oldest. Older manifests are
+    // looked at elsewhere: no call but that for their own payload depends on them.
+    let segments = links.iter().zip(entries).filter(|(link, _)| link.kind != rvf::MANIFEST);
+    for (link, entry) in segments.rev() {
         let damage = damage(file, link);
         if entry.retired {
             let effect = || "the segment is retired, so no call reads it".to_string();
@@ -110,12 +123,16 @@ impl Search {
         }
         let search = match self.first_bad {
             Some(newer) => {
-                format!("searches for a vector stop at segment {newer}; without that one they would refuse {number} here")
+                format!(
+                    "searches for a vector stop at segment {newer}; without that one they would refuse {number} here"
+                )
             }
             None if self.any_newer => {
                 format!("every search for a vector that no newer segment holds refuses {number}; nothing older is answered")
             }
-            None => format!("every search for a vector refuses {number}, since this is the newest live segment of vectors"),
+            None => {
+                format!("every search for a vector refuses {number}, since this is the newest live segment of vectors")
+            }
         };
         self.first_bad = self.first_bad.or(Some(link.id));
         self.any_newer = true;
@@ -129,7 +146,7 @@ fn about(link: &Link, state: &str, weight: Weight, refusal: Refusal, effect: Str
     Finding { weight, offset: link.offset, segment: Some(link.id), refusal: refused, what, effect }
 }
 
-fn broken(refusal: Refusal) -> &'static str {
+pub fn broken(refusal: Refusal) -> &'static str {
     match refusal {
         Refusal::ContentHash => "its content hash differs",
         Refusal::Dtype => "a block has a dtype that is not one of f32, i8, u8",
@@ -138,12 +155,18 @@ fn broken(refusal: Refusal) -> &'static str {
     }
 }
 
-/// What lies behind the manifest's end.
-fn behind(file: &[u8], links: &[Link], manifest: &Manifest) -> Option<Finding> {
+/// What lies behind the manifest's end: lost batches, or one that was cut short.
+fn behind(file: &[u8], links: &[Link], manifest: &Manifest, loss: Option<&Loss>) -> Option<Finding> {
     let end = manifest.end as usize;
     let bytes = file.len() - end;
     if bytes == 0 {
         return None;
+    }
+    if let Some(loss) = loss {
+        let what = format!("the chain breaks: {}", loss.why);
+        let (lost, id) = (loss.what(), manifest.id);
+        let effect = format!("{lost}\nwhat manifest {id} answers may be old: get, append and retire stop here");
+        return Some(Finding { weight: Weight::Fault, offset: loss.at, segment: None, refusal: None, what, effect });
     }
     let links = match links.iter().filter(|link| link.offset >= end).count() {
         0 => "no complete segment".to_string(),
@@ -156,13 +179,12 @@ fn behind(file: &[u8], links: &[Link], manifest: &Manifest) -> Option<Finding> {
 }
 
 /// Without a manifest nothing is live: the one fault is its absence.
-fn without_manifest(file: &[u8], walk: &Walk) -> Vec<Finding> {
-    let (what, effect) = if file.is_empty() {
-        ("the file is empty".to_string(), "every reading call refuses 2 until a batch is appended".to_string())
-    } else {
-        let what = format!("no confirmed manifest; the chain of segments stops at byte {}: {}", walk.stopped, walk.why);
-        (what, "every reading call and every append refuses 2".to_string())
+fn without_manifest(file: &[u8], walk: &Walk, absence: &Absence) -> Vec<Finding> {
+    let effect = match absence {
+        Absence::Empty => "every reading call refuses 2 until a batch is appended",
+        _ => "every reading call and every append refuses 2",
     };
+    let (what, effect) = (format!("no confirmed manifest: {}", absence.what()), effect.to_string());
     let refusal = Some(Refusal::NoManifest);
     let absent = Finding { weight: Weight::Fault, offset: walk.stopped, segment: None, refusal, what, effect };
     let effect = || "without a manifest no call reads it".to_string();
@@ -174,21 +196,20 @@ fn without_manifest(file: &[u8], walk: &Walk) -> Vec<Finding> {
     damaged.chain([absent]).collect()
 }
 
-/// The segments of type 5 that are not confirmed. One behind the end of the file's manifest
-/// deserves a warning: if it was confirmed once, its batch is lost to readers.
+/// The segments of type 5 before a place that are not confirmed. Each batch brings a manifest
+/// of all segments, so an older one that is damaged is missed by nobody.
 fn unconfirmed(file: &[u8], links: &[Link], end: usize) -> Vec<Finding> {
-    let manifests = links.iter().enumerate().filter(|(_, link)| link.kind == rvf::MANIFEST);
+    let manifests = links.iter().enumerate().filter(|(_, link)| link.kind == rvf::MANIFEST && link.offset < end);
     let doubts = manifests.filter_map(|(index, link)| Some((link, doubt(file, link, &links[..index])?)));
-    let finding = |(link, doubt): (&Link, _)| Finding {
+    let finding = |(link, doubt): (&Link, Doubt)| Finding {
         weight: Weight::Remark,
         offset: link.offset,
         segment: Some(link.id),
         refusal: None,
         what: format!("segment {} (MANIFEST) is no confirmed manifest: {doubt}", link.id),
-        effect: if link.offset < end {
-            "opening takes no notice of it".to_string()
-        } else {
-            "its batch is not in the store; keep a copy before you append, which removes it".to_string()
+        effect: match doubt {
+            Doubt::Hash => "reading its payload refuses 4; nothing else depends on it".to_string(),
+            _ => "opening takes no notice of it".to_string(),
         },
     };
     doubts.map(finding).collect()

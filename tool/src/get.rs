@@ -1,64 +1,83 @@
 //! `rvf get`: a vector, a component, or the payload of a segment.
 
-use crate::args::Wanted;
+use crate::args::{Get, Wanted};
 use crate::failure::{Failure, DONE};
-use crate::files::read_store;
+use crate::files::{read_store, write_new};
 use crate::json::Json;
+use crate::lost::loss;
+use crate::refusals::{reading, Target};
 use crate::Answer;
-use rvf::{Component, Dtype, Refusal};
-use std::fs::{self, File};
-use std::io::{self, Write};
+use rvf::{Component, Dtype};
 use std::path::Path;
 
-pub fn run(path: &Path, wanted: &Wanted, json: bool) -> Result<Answer, Failure> {
+/// What was got: members of a JSON object, or bytes to print.
+struct Got {
+    members: Vec<(&'static str, Json)>,
+    text: Vec<u8>,
+}
+
+pub fn run(request: &Get, json: bool) -> Result<Answer, Failure> {
+    let path = &request.file;
     let file = read_store(path)?;
-    let got = match wanted {
-        Wanted::Vector(id) => vector(&file, *id, json),
-        Wanted::Component { id, index } => component(&file, *id, *index, json),
-        Wanted::Segment { id, to } => {
-            let payload = rvf::payload(&file, *id).map_err(|refusal| Failure::reading(path, &file, refusal))?;
-            return segment(*id, payload, to.as_deref(), json);
+    let target = request.wanted.target();
+    let refused = |refusal| reading(path, &file, target, refusal);
+    // An old position sent as the present one is the worst answer there is: where batches are
+    // lost, nothing is answered unless the older position will do.
+    let loss = if rvf::open(&file).is_ok() { loss(&file).map_err(refused)? } else { None };
+    if let Some(loss) = loss.as_ref().filter(|_| !request.accept_older) {
+        return Err(loss.unanswered(path));
+    }
+    let mut got = match &request.wanted {
+        Wanted::Vector(id) => vector(*id, &rvf::vector(&file, *id).map_err(refused)?),
+        Wanted::Component { id, index } => {
+            component(*id, *index, rvf::component(&file, *id, *index).map_err(refused)?)
         }
+        Wanted::Segment { id, to } => segment(*id, rvf::payload(&file, *id).map_err(refused)?, to.as_deref())?,
     };
-    got.map_err(|refusal| Failure::reading(path, &file, refusal))
+    got.members.extend(loss.as_ref().map(|_| ("may_be_old", Json::True)));
+    let warning = loss.map_or(String::new(), |loss| loss.warning(path));
+    let output = if json { format!("{}\n", Json::Object(got.members)).into_bytes() } else { got.text };
+    Ok(Answer { output, messages: warning, status: DONE })
 }
 
-fn vector(file: &[u8], id: u64, json: bool) -> Result<Answer, Refusal> {
-    let vector = rvf::vector(file, id)?;
+impl Wanted {
+    fn target(&self) -> Target {
+        match *self {
+            Wanted::Vector(id) => Target::Vector(id),
+            Wanted::Component { id, index } => Target::Component { id, index },
+            Wanted::Segment { id, .. } => Target::Segment(id),
+        }
+    }
+}
+
+fn vector(id: u64, vector: &rvf::Vector) -> Got {
     let components: Vec<Component> = vector.components().collect();
-    let value = || {
-        Json::Object(vec![
-            ("id", Json::Number(id)),
-            ("dim", Json::Number(components.len() as u64)),
-            ("dtype", Json::text(name(vector.dtype))),
-            ("values", Json::List(components.iter().map(|&component| Json::component(component)).collect())),
-            ("bytes", Json::hex(&vector.bytes)),
-        ])
-    };
-    let text = || {
-        let words: Vec<String> = components.iter().map(Component::to_string).collect();
-        format!("vector {id}, dim {}, dtype {}\n{}\n", components.len(), name(vector.dtype), words.join(" "))
-    };
-    Ok(Answer::of(json, value, text))
+    let words: Vec<String> = components.iter().map(Component::to_string).collect();
+    let text = format!("vector {id}, dim {}, dtype {}\n{}\n", components.len(), name(vector.dtype), words.join(" "));
+    let members = vec![
+        ("id", Json::Number(id)),
+        ("dim", Json::Number(components.len() as u64)),
+        ("dtype", Json::text(name(vector.dtype))),
+        ("values", Json::List(components.iter().map(|&component| Json::component(component)).collect())),
+        ("bytes", Json::hex(&vector.bytes)),
+    ];
+    Got { members, text: text.into_bytes() }
 }
 
-fn component(file: &[u8], id: u64, index: u64, json: bool) -> Result<Answer, Refusal> {
-    let component = rvf::component(file, id, index)?;
+fn component(id: u64, index: u64, component: Component) -> Got {
     let (dtype, bytes) = match component {
         Component::F32(value) => (Dtype::F32, value.to_le_bytes().to_vec()),
         Component::I8(value) => (Dtype::I8, value.to_le_bytes().to_vec()),
         Component::U8(value) => (Dtype::U8, vec![value]),
     };
-    let value = || {
-        Json::Object(vec![
-            ("id", Json::Number(id)),
-            ("component", Json::Number(index)),
-            ("dtype", Json::text(name(dtype))),
-            ("value", Json::component(component)),
-            ("bytes", Json::hex(&bytes)),
-        ])
-    };
-    Ok(Answer::of(json, value, || format!("{component}\n")))
+    let members = vec![
+        ("id", Json::Number(id)),
+        ("component", Json::Number(index)),
+        ("dtype", Json::text(name(dtype))),
+        ("value", Json::component(component)),
+        ("bytes", Json::hex(&bytes)),
+    ];
+    Got { members, text: format!("{component}\n").into_bytes() }
 }
 
 fn name(dtype: Dtype) -> &'static str {
@@ -70,29 +89,14 @@ fn name(dtype: Dtype) -> &'static str {
 }
 
 /// A payload goes out as it is: to the path, else to standard output.
-fn segment(id: u64, payload: &[u8], to: Option<&Path>, json: bool) -> Result<Answer, Failure> {
+fn segment(id: u64, payload: &[u8], to: Option<&Path>) -> Result<Got, Failure> {
     let mut members = vec![("segment", Json::Number(id)), ("length", Json::Number(payload.len() as u64))];
     let Some(to) = to else {
         members.push(("bytes", Json::hex(payload)));
-        let raw = Answer { output: payload.to_vec(), status: DONE };
-        return Ok(if json { Answer::of(true, || Json::Object(members), String::new) } else { raw });
+        return Ok(Got { members, text: payload.to_vec() });
     };
     write_new(to, payload)?;
     members.push(("to", Json::text(to.display().to_string())));
-    let text = || format!("segment {id}: {} bytes written to {}\n", payload.len(), to.display());
-    Ok(Answer::of(json, || Json::Object(members), text))
-}
-
-/// Writes a file that was not there; one that was is left alone.
-fn write_new(path: &Path, bytes: &[u8]) -> Result<(), Failure> {
-    let failed = |error: io::Error| match error.kind() {
-        io::ErrorKind::AlreadyExists => Failure::Io(format!("{}: exists already; name another path", path.display())),
-        _ => Failure::Io(format!("{}: writing failed: {error}", path.display())),
-    };
-    let mut file = File::create_new(path).map_err(failed)?;
-    file.write_all(bytes).and_then(|()| file.sync_all()).map_err(|error| {
-        // Half a payload must not be taken for a whole one; it is our own file.
-        let _ = fs::remove_file(path);
-        failed(error)
-    })
+    let text = format!("segment {id}: {} bytes written to {}\n", payload.len(), to.display());
+    Ok(Got { members, text: text.into_bytes() })
 }

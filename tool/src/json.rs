@@ -7,6 +7,7 @@ use std::fmt::{self, Display, Formatter, Write};
 #[derive(Clone, Debug)]
 pub enum Json {
     Null,
+    True,
     Number(u64),
     Signed(i8),
     /// A number where it is finite; JSON has no other, so the rest are strings.
@@ -14,6 +15,8 @@ pub enum Json {
     Text(String),
     List(Vec<Json>),
     Object(Vec<(&'static str, Json)>),
+    /// A value that is written already.
+    Written(String),
 }
 
 impl Json {
@@ -50,12 +53,14 @@ impl Display for Json {
     fn fmt(&self, out: &mut Formatter<'_>) -> fmt::Result {
         match self {
             Json::Null => out.write_str("null"),
+            Json::True => out.write_str("true"),
             Json::Number(value) => write!(out, "{value}"),
             Json::Signed(value) => write!(out, "{value}"),
             // The shortest decimal that reads back as the same f32; never an exponent.
             Json::Float(value) if value.is_finite() => write!(out, "{value}"),
             Json::Float(value) => write!(out, "\"{value}\""),
             Json::Text(words) => quoted(out, words),
+            Json::Written(value) => out.write_str(value),
             Json::List(values) => joined(out, '[', ']', values, |out, value| write!(out, "{value}")),
             Json::Object(members) => joined(out, '{', '}', members, |out, (name, value)| {
                 quoted(out, name)?;

@@ -1,18 +1,28 @@
 //! `rvf list`: the directory of a file's manifest, as a table or as JSON.
 
-use crate::failure::Failure;
+use crate::failure::{Failure, DONE, FAULTS};
 use crate::files::read_store;
 use crate::json::Json;
+use crate::lost::{loss, Loss};
+use crate::refusals::{reading, Target};
 use crate::walk::{content_hash, type_name, HEADER};
 use crate::Answer;
 use rvf::{Entry, Manifest, Refusal};
 use std::fmt::Write;
 use std::path::Path;
 
-pub fn run(path: &Path, json: bool) -> Result<Answer, Failure> {
+/// The list of a file; `named` puts its path above it. Where batches are lost, the directory
+/// is an old one: it is printed, and the status says so.
+pub fn run(path: &Path, json: bool, named: bool) -> Result<Answer, Failure> {
     let file = read_store(path)?;
-    let listing = Listing::of(&file).map_err(|refusal| Failure::reading(path, &file, refusal))?;
-    Ok(Answer::of(json, || listing.json(), || listing.text()))
+    let listing = Listing::of(&file).map_err(|refusal| reading(path, &file, Target::Directory, refusal))?;
+    let heading = if named { format!("{}:\n", path.display()) } else { String::new() };
+    let answer = Answer::of(json, || listing.json(), || heading + &listing.text());
+    let (messages, status) = match &listing.loss {
+        Some(loss) => (loss.unanswered(path).messages(), FAULTS),
+        None => (String::new(), DONE),
+    };
+    Ok(answer.saying(messages).with_status(status))
 }
 
 pub fn manifest_json(manifest: &Manifest) -> Json {
@@ -31,6 +41,7 @@ struct Listing {
     entries: Vec<(Entry, bool)>,
     /// Bytes behind the manifest's end.
     behind: u64,
+    loss: Option<Loss>,
 }
 
 impl Listing {
@@ -40,12 +51,12 @@ impl Listing {
         let payload = |entry: &Entry| &file[entry.offset as usize + HEADER..][..entry.length as usize];
         let checked = |entry: Entry| (entry, entry.hash == content_hash(payload(&entry)));
         let entries = rvf::entries(file)?.into_iter().map(checked).collect();
-        Ok(Listing { manifest, entries, behind: file.len() as u64 - manifest.end })
+        Ok(Listing { manifest, entries, behind: file.len() as u64 - manifest.end, loss: loss(file)? })
     }
 
     fn text(&self) -> String {
         let head = ["id", "type", "offset", "length", "state", "check"].map(str::to_string);
-        let rows = self.entries.iter().map(|(entry, whole)| row(entry, state(entry), *whole));
+        let rows = self.entries.iter().map(|(entry, whole)| row(entry, state(entry.retired), *whole));
         // The file's own manifest is confirmed, so its hash agrees.
         let Manifest { id, offset, end, tried, .. } = self.manifest;
         let length = end - offset - HEADER as u64;
@@ -68,20 +79,22 @@ impl Listing {
                 ("flags", Json::Number(entry.flags.into())),
                 ("offset", Json::Number(entry.offset)),
                 ("length", Json::Number(entry.length)),
-                ("state", Json::text(state(entry))),
+                ("state", Json::text(state(entry.retired))),
                 ("check", Json::text(verdict(*whole))),
             ])
         };
-        Json::Object(vec![
+        let mut members = vec![
             ("entries", Json::List(self.entries.iter().map(entry).collect())),
             ("manifest", manifest_json(&self.manifest)),
             ("behind", Json::Number(self.behind)),
-        ])
+        ];
+        members.extend(self.loss.as_ref().map(|loss| ("lost", loss.json())));
+        Json::Object(members)
     }
 }
 
-fn state(entry: &Entry) -> &'static str {
-    if entry.retired { "retired" } else { "live" }
+pub fn state(retired: bool) -> &'static str {
+    if retired { "retired" } else { "live" }
 }
 
 fn verdict(whole: bool) -> &'static str {

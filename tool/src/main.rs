@@ -1,5 +1,6 @@
 //! The program `rvf`: its words go to the library part, what comes back goes out.
 
+use rvf_tool::failure::{DONE, NO_OUTPUT};
 use std::io::{self, ErrorKind, Write};
 use std::process::ExitCode;
 
@@ -13,8 +14,9 @@ fn main() -> ExitCode {
         // Whoever reads has seen enough (`rvf list f | head -1`): that is no failure.
         Err(error) if error.kind() == ErrorKind::BrokenPipe => ExitCode::from(outcome.status),
         Err(error) => {
+            // What was to be done is done; a status that says that something was wrong stays.
             let _ = writeln!(io::stderr(), "rvf: standard output: {error}");
-            ExitCode::from(rvf_tool::failure::IO)
+            ExitCode::from(if outcome.status == DONE { NO_OUTPUT } else { outcome.status })
         }
     }
 }

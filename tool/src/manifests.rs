@@ -1,13 +1,13 @@
 //! Whether a segment of type 5 is a confirmed manifest, and if not, why.
 
-use crate::walk::{le16, le32, le64, Link, HEADER};
+use crate::walk::{content_hash, le16, le32, le64, Link, HEADER};
 use std::fmt::{self, Display, Formatter};
 
-const ENTRY: usize = 48;
-const RECORD_HEAD: usize = 8;
-const ROOT: usize = 4_096;
+pub const ENTRY: usize = 48;
+pub const RECORD_HEAD: usize = 8;
+pub const ROOT: usize = 4_096;
 /// The most entries that a directory has.
-const ENTRIES: usize = 1_024;
+pub const ENTRIES: usize = 1_024;
 
 /// Why a segment of type 5 is no confirmed manifest.
 #[derive(Clone, Copy, Debug, PartialEq, Eq)]
@@ -39,8 +39,38 @@ impl Display for Doubt {
     }
 }
 
+/// Whether the directory of a manifest is as it was written. The hash in the header speaks of
+/// the root too, and a root has one form only; so a damaged one is made anew for the comparison.
+/// The manifest need not be confirmed: what stands before it may be damaged.
+pub fn directory_whole(file: &[u8], link: &Link) -> bool {
+    let Some(length) = link.length.checked_sub(ROOT).filter(|length| *length >= RECORD_HEAD) else {
+        return false;
+    };
+    let contents = &link.payload(file)[..length];
+    let count = le32(contents, 2) as usize / ENTRY;
+    if count > ENTRIES || payload_length(count) != link.length {
+        return false;
+    }
+    let payload = [contents, &root(link.offset, link.end, link.id, count)].concat();
+    link.header(file)[40..56] == content_hash(&payload)
+}
+
+/// The root of a manifest: its place, its id and the number of its entries.
+pub fn root(offset: usize, end: usize, id: u64, count: usize) -> [u8; ROOT] {
+    let mut root = [0; ROOT];
+    root[..5].copy_from_slice(b"RVM0\x01");
+    root[6..8].copy_from_slice(&(count as u16).to_le_bytes());
+    let used = RECORD_HEAD + ENTRY * count;
+    for (field, number) in [(8, offset as u64), (16, id), (24, used as u64), (32, end as u64)] {
+        root[field..field + 8].copy_from_slice(&number.to_le_bytes());
+    }
+    let crc = rvf::crc32c(&root[..ROOT - 4]);
+    root[ROOT - 4..].copy_from_slice(&crc.to_le_bytes());
+    root
+}
+
 /// Payload length of a manifest with so many entries.
-fn payload_length(count: usize) -> usize {
+pub fn payload_length(count: usize) -> usize {
     (RECORD_HEAD + ENTRY * count).next_multiple_of(HEADER) + ROOT
 }
 

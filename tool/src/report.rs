@@ -5,6 +5,9 @@ use crate::failure::{Failure, DONE, FAULTS};
 use crate::files::read_store;
 use crate::json::Json;
 use crate::list::manifest_json;
+use crate::lost::Loss;
+use crate::quote::quoted;
+use crate::refusals::{reading, Target};
 use crate::walk::Stop;
 use crate::Answer;
 use rvf::Manifest;
@@ -13,19 +16,21 @@ use std::path::Path;
 
 pub fn run(path: &Path, json: bool) -> Result<Answer, Failure> {
     let file = read_store(path)?;
-    let checked = check(&file).map_err(|refusal| Failure::refused(path, refusal))?;
+    let checked = check(&file).map_err(|refusal| reading(path, &file, Target::Directory, refusal))?;
     let status = if checked.count(Weight::Fault) == 0 { DONE } else { FAULTS };
-    Ok(Answer { status, ..Answer::of(json, || value(&checked), || text(path, &checked)) })
+    Ok(Answer::of(json, || value(&checked), || text(path, &checked)).with_status(status))
 }
 
 fn text(path: &Path, checked: &Checked) -> String {
-    let mut text = format!("{}: {} bytes\n{}\n{}\n", path.display(), checked.length, chain(checked), manifest(checked));
+    let mut text =
+        format!("{}: {} bytes\n{}\n{}\n", path.display(), checked.length, chain(checked), manifest(checked));
     for finding in &checked.findings {
         let word = match finding.weight {
             Weight::Fault => "FAULT ",
             Weight::Remark => "remark",
         };
-        let _ = write!(text, "{word} byte {}: {}\n       {}\n", finding.offset, finding.what, finding.effect);
+        let _ = writeln!(text, "{word} byte {}: {}", finding.offset, finding.what);
+        finding.effect.lines().for_each(|line| text += &format!("       {line}\n"));
     }
     let (faults, remarks) = (checked.count(Weight::Fault), checked.count(Weight::Remark));
     let _ = writeln!(text, "{}, {}", plural(faults, "fault"), plural(remarks, "remark"));
@@ -54,28 +59,29 @@ fn manifest(checked: &Checked) -> String {
     format!("manifest: id {id} at byte {offset}, ends at {end}; {live} live and {retired} retired segments")
 }
 
-/// What can be done about the faults.
+/// What can be done about the faults: first what brings the present position back, then what
+/// brings an older one.
 fn next(path: &Path, checked: &Checked) -> String {
-    let path = path.display();
-    if checked.manifest.is_none() {
-        return if checked.length == 0 {
-            format!("next: 'rvf append {path} BATCH' starts a store in it\n")
-        } else {
-            "next: take a copy from elsewhere; if this is the torn first batch of a new store, remove it\n      \
-             and append with --create\n"
-                .to_string()
-        };
+    if let Some(absence) = &checked.absence {
+        return format!("next: {}\n", absence.next(path));
+    }
+    let path = quoted(path);
+    if checked.loss.is_some() {
+        return format!(
+            "next: 'rvf salvage {path} NEW' saves every segment that is whole to a new file; or take a copy\n      \
+             from elsewhere; or append with --discard-tail, which saves what lies behind beside the file\n"
+        );
     }
     let bad = |finding: &Finding| finding.segment.filter(|_| finding.weight == Weight::Fault);
-    let may_retire = |id: &u64| checked.walk.links.iter().all(|link| link.id != *id || link.kind != rvf::MANIFEST);
-    let ids: Vec<String> = checked.findings.iter().filter_map(bad).filter(may_retire).map(|id| id.to_string()).collect();
+    let ids: Vec<u64> = checked.findings.iter().filter_map(bad).collect();
     if ids.is_empty() {
         return String::new();
     }
-    let ids = ids.join(" ");
+    let words = |before: &str| ids.iter().map(|id| format!("{before}{id}")).collect::<String>();
+    let (retire, ids) = (words(" --retire "), words(" "));
     format!(
-        "next: 'rvf retire {path} {ids}' takes what is bad out of every search; older vectors\n      \
-         with the same ids are answered from then on\n"
+        "next: append the batch again and retire what is bad in one step: 'rvf append {path} BATCH{retire}'\n      \
+         or only retire it: 'rvf retire {path}{ids}'; older vectors with the same ids are answered from then on\n"
     )
 }
 
@@ -93,6 +99,7 @@ fn value(checked: &Checked) -> Json {
         ("length", Json::Number(checked.length as u64)),
         ("chain", Json::Object(chain)),
         ("manifest", checked.manifest.as_ref().map_or(Json::Null, |(manifest, _)| manifest_json(manifest))),
+        ("lost", checked.loss.as_ref().map_or(Json::Null, Loss::json)),
         ("findings", Json::List(checked.findings.iter().map(finding_json).collect())),
         ("faults", Json::Number(checked.count(Weight::Fault) as u64)),
         ("remarks", Json::Number(checked.count(Weight::Remark) as u64)),
@@ -107,6 +114,6 @@ fn finding_json(finding: &Finding) -> Json {
         ("segment", Json::maybe(finding.segment)),
         ("refused", Json::maybe(finding.refusal.map(|refusal| refusal.number().into()))),
         ("what", Json::text(&finding.what)),
-        ("effect", Json::text(&finding.effect)),
+        ("effect", Json::text(finding.effect.replace('\n', "; "))),
     ])
 }

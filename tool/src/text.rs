@@ -1,5 +1,7 @@
 //! Vectors written as text: a line for each, its id and its values.
 
+use crate::args::Reading;
+use crate::rounding::held;
 use crate::words::decimal;
 use rvf::{Dtype, Encoding, Refusal, Vectors};
 
@@ -23,11 +25,18 @@ struct Vector {
 }
 
 /// The payload of one block that holds the vectors of a text, by rising ids.
-pub fn payload(text: &[u8]) -> Result<Vec<u8>, Wrong> {
+pub fn payload(text: &[u8], reading: Reading) -> Result<Vec<u8>, Wrong> {
     if text.len() > TEXT_LIMIT {
         return Err(Wrong::Text(format!("has more than {TEXT_LIMIT} bytes; append it in several batches")));
     }
-    let mut vectors = vectors(text)?;
+    if !reading.no_final_newline && text.last().is_some_and(|&byte| byte != b'\n') {
+        let lines = text.iter().filter(|&&byte| byte == b'\n').count();
+        return Err(at(
+            lines + 1,
+            "has no line feed at its end, so its last value may be cut short; if it is whole, add --no-final-newline",
+        ));
+    }
+    let mut vectors = vectors(text, reading)?;
     let Some(dim) = vectors.first().map(|vector| vector.values.len()) else {
         return Err(Wrong::Text("has no vectors; a line is 'ID VALUE VALUE ...'".to_string()));
     };
@@ -53,7 +62,7 @@ fn write(vectors: &[Vector], dim: usize) -> Result<Vec<u8>, Wrong> {
     rvf::vectors(&input).map_err(Wrong::Refused)
 }
 
-fn vectors(text: &[u8]) -> Result<Vec<Vector>, Wrong> {
+fn vectors(text: &[u8], reading: Reading) -> Result<Vec<Vector>, Wrong> {
     let mut vectors = Vec::new();
     for (index, bytes) in text.split(|&byte| byte == b'\n').enumerate() {
         let line = index + 1;
@@ -63,8 +72,9 @@ fn vectors(text: &[u8]) -> Result<Vec<Vector>, Wrong> {
         let Some(id) = words.next() else {
             continue;
         };
-        let id = decimal(id).ok_or_else(|| at(line, format!("the id must be a whole number of 64 bits, not '{id}'")))?;
-        let values: Vec<f32> = words.map(|word| value(line, word)).collect::<Result<_, _>>()?;
+        let id =
+            decimal(id).ok_or_else(|| at(line, format!("the id must be a whole number of 64 bits, not '{id}'")))?;
+        let values: Vec<f32> = words.map(|word| value(line, word, reading)).collect::<Result<_, _>>()?;
         if values.is_empty() {
             return Err(at(line, "has an id and no values"));
         }
@@ -74,13 +84,18 @@ fn vectors(text: &[u8]) -> Result<Vec<Vector>, Wrong> {
 }
 
 /// A value. A number too large for an f32 would silently become infinite, so it is refused;
+/// one that an f32 does not hold would become another, so that must be said to be right.
 /// `inf` and `NaN` are what they say.
-fn value(line: usize, word: &str) -> Result<f32, Wrong> {
+fn value(line: usize, word: &str, reading: Reading) -> Result<f32, Wrong> {
     match word.parse::<f32>() {
         Err(_) => Err(at(line, format!("'{word}' is no number"))),
         Ok(value) if value.is_infinite() && word.bytes().any(|byte| byte.is_ascii_digit()) => {
             Err(at(line, format!("'{word}' is too large for an f32")))
         }
+        Ok(value) if !reading.round && !held(word, value) => Err(at(
+            line,
+            format!("'{word}' would be rounded to {value}, which an f32 holds; if that will do, add --round"),
+        )),
         Ok(value) => Ok(value),
     }
 }
@@ -95,8 +110,8 @@ mod tests {
 
     #[test]
     fn lines_become_vectors_by_rising_ids() {
-        let text = b"# positions\n9 1.5 -2\n\n 3\t0.25 inf # newest\r\n18446744073709551615 -0 NaN";
-        let payload = payload(text).expect("the text is right");
+        let text = b"# positions\n9 1.5 -2\n\n 3\t0.25 inf # newest\r\n18446744073709551615 -0 NaN\n";
+        let payload = payload(text, Reading::default()).expect("the text is right");
         let words = |vector: rvf::Vector| vector.components().map(|c| c.to_string()).collect::<Vec<_>>().join(" ");
         let values = |id| rvf::vector_of(&payload, id).map(words);
         assert_eq!(values(9), Ok("1.5 -2".to_string()));
@@ -107,23 +122,43 @@ mod tests {
 
     #[test]
     fn what_is_wrong_names_its_line() {
-        let cases: [(&[u8], &str); 10] = [
+        let cases: [(&[u8], &str); 15] = [
             (b"", "has no vectors"),
             (b"# nothing\n\n", "has no vectors"),
-            (b"1 2\n3 4\n1 5", "line 3: id 1 stands on line 1 already"),
-            (b"1 2\n\n3 4 5", "line 3: has 2 values, the first vector has 1"),
-            (b"1 2\n3", "line 2: has an id and no values"),
-            (b"-1 2", "line 1: the id must be a whole number of 64 bits, not '-1'"),
-            (b"18446744073709551616 2", "line 1: the id must be"),
-            (b"1 two", "line 1: 'two' is no number"),
-            (b"1 1\n2 1e39", "line 2: '1e39' is too large for an f32"),
-            (b"1 1\n\xFF", "line 2: is no text in UTF-8"),
+            (b"1 2\n3 4\n1 5\n", "line 3: id 1 stands on line 1 already"),
+            (b"1 2\n\n3 4 5\n", "line 3: has 2 values, the first vector has 1"),
+            (b"1 2\n3\n", "line 2: has an id and no values"),
+            (b"-1 2\n", "line 1: the id must be a whole number of 64 bits, not '-1'"),
+            (b"18446744073709551616 2\n", "line 1: the id must be"),
+            (b"1 two\n", "line 1: 'two' is no number"),
+            (b"1 1\n2 1e39\n", "line 2: '1e39' is too large for an f32"),
+            (b"1 1\n\xFF\n", "line 2: is no text in UTF-8"),
+            (b"1 102", "line 1: has no line feed at its end"),
+            (b"1 1\n2 102", "line 2: has no line feed at its end, so its last value may be cut short"),
+            (b"1 1\n# end", "line 2: has no line feed at its end"),
+            (b"1 1\n2 16777217\n", "line 2: '16777217' would be rounded to 16777216, "),
+            (b"1 1e-50\n", "line 1: '1e-50' would be rounded to 0, "),
         ];
         for (text, wanted) in cases {
-            match payload(text) {
+            match payload(text, Reading::default()) {
                 Err(Wrong::Text(words)) => assert!(words.starts_with(wanted), "{words}"),
                 other => panic!("{wanted}: {other:?}"),
             }
         }
+    }
+    /// What is refused as it stands, and taken where it is said to be right.
+    #[test]
+    fn a_last_line_and_rounding_by_option() {
+        let value = |text: &[u8], reading| {
+            let vector = rvf::vector_of(&payload(text, reading).expect("taken"), 1).expect("it is there");
+            vector.components().map(|c| c.to_string()).collect::<Vec<_>>().join(" ")
+        };
+        let (no_final_newline, round) = (true, true);
+        assert_eq!(value(b"1 102", Reading { no_final_newline, round: false }), "102");
+        assert_eq!(value(b"1 102\n", Reading { no_final_newline, round: false }), "102");
+        assert_eq!(value(b"1 16777217 1e-50\n", Reading { no_final_newline: false, round }), "16777216 0");
+        assert_eq!(value(b"1 16777217", Reading { no_final_newline, round }), "16777216");
+        // Too large stays too large.
+        assert!(payload(b"1 1e39\n", Reading { no_final_newline, round }).is_err());
     }
 }

@@ -9,7 +9,7 @@ use std::fmt::{self, Display, Formatter};
 pub const HEADER: usize = 64;
 const MAGIC: [u8; 4] = *b"RVFS";
 /// SEALED, HOT, OVERLAY, SNAPSHOT and CHECKPOINT.
-const FLAGS: u16 = 0x03C8;
+pub const FLAGS: u16 = 0x03C8;
 
 /// A segment whose header is sound.
 #[derive(Clone, Copy, Debug, PartialEq, Eq)]
@@ -31,6 +31,11 @@ impl Link {
 
     pub fn payload<'a>(&self, file: &'a [u8]) -> &'a [u8] {
         &file[self.offset + HEADER..][..self.length]
+    }
+
+    /// The time of the append that wrote it.
+    pub fn time(&self, file: &[u8]) -> u64 {
+        le64(self.header(file), 24)
     }
 
     /// Whether the content hash in the header is the payload's.
@@ -57,12 +62,29 @@ pub enum Stop {
     Type(u8),
     Flags(u16),
     Algorithm(u8),
-    /// A field that must be zero and is not.
-    Reserved { field: &'static str },
+    /// A field that must be zero and is not, and where in the header it stands.
+    Reserved { field: &'static str, byte: usize },
     Id { id: u64, before: u64 },
     /// The end as a plain number; a length of 64 bits may lead far beyond any file.
     PastEnd { end: u128, length: usize },
-    Padding { at: usize },
+    Padding { id: u64, at: usize },
+}
+
+impl Stop {
+    /// The byte that breaks the rule, where no sound header stands at a place.
+    pub fn byte(&self, place: usize) -> usize {
+        match self {
+            Stop::FileEnd | Stop::Room { .. } | Stop::Magic { .. } => place,
+            Stop::Version(_) => place + 4,
+            Stop::Type(_) => place + 5,
+            Stop::Flags(_) => place + 6,
+            Stop::Id { .. } => place + 8,
+            Stop::PastEnd { .. } => place + 16,
+            Stop::Algorithm(_) => place + 32,
+            Stop::Reserved { byte, .. } => place + byte,
+            Stop::Padding { at, .. } => *at,
+        }
+    }
 }
 
 impl Display for Stop {
@@ -77,12 +99,12 @@ impl Display for Stop {
             Stop::Type(kind) => write!(out, "the type 0x{kind:02x} is not allowed"),
             Stop::Flags(flags) => write!(out, "the flags 0x{flags:04x} are not allowed (only 0x03c8 and parts of it)"),
             Stop::Algorithm(number) => write!(out, "the checksum algorithm is {number}, not 0"),
-            Stop::Reserved { field } => write!(out, "the header's field {field} is not zero"),
+            Stop::Reserved { field, .. } => write!(out, "the header's field {field} is not zero"),
             Stop::Id { id, before } => write!(out, "the id {id} is not above {before}, the id before it"),
             Stop::PastEnd { end, length } => {
                 write!(out, "the segment there would end at byte {end}, the file has {length} bytes")
             }
-            Stop::Padding { at } => write!(out, "the padding is not zero at byte {at}"),
+            Stop::Padding { id, at } => write!(out, "padding of segment {id} at byte {at} is not zero"),
         }
     }
 }
@@ -111,6 +133,16 @@ pub fn walk(file: &[u8]) -> Walk {
 
 /// The segment at a place; `before` is the id of the one before it, if there is one.
 fn link_at(file: &[u8], at: usize, before: Option<u64>) -> Result<Link, Stop> {
+    let link = segment_at(file, at, before)?;
+    let padding = at + HEADER + link.length;
+    match file[padding..link.end].iter().position(|&byte| byte != 0) {
+        Some(place) => Err(Stop::Padding { id: link.id, at: padding + place }),
+        None => Ok(link),
+    }
+}
+
+/// The same, whatever its padding holds.
+pub fn segment_at(file: &[u8], at: usize, before: Option<u64>) -> Result<Link, Stop> {
     let rest = &file[at..];
     if rest.is_empty() {
         return Err(Stop::FileEnd);
@@ -130,11 +162,11 @@ fn link_at(file: &[u8], at: usize, before: Option<u64>) -> Result<Link, Stop> {
     }
     // Both are below the file's length, so neither is cut.
     let (length, end) = (length as usize, end as usize);
-    let padding = at + HEADER + length;
-    if let Some(place) = file[padding..end].iter().position(|&byte| byte != 0) {
-        return Err(Stop::Padding { at: padding + place });
-    }
     Ok(Link { offset: at, end, id, length, kind: header[5], flags: le16(header, 6) })
+}
+
+pub fn allowed_type(kind: u8) -> bool {
+    matches!(kind, 0x01..=0x0C | 0xF0..=0xFF)
 }
 
 /// The fields that have fixed or limited values, in the order in which they stand.
@@ -146,7 +178,7 @@ fn check_fields(header: &[u8; HEADER]) -> Result<(), Stop> {
     if version != 1 {
         return Err(Stop::Version(version));
     }
-    if !matches!(kind, 0x01..=0x0C | 0xF0..=0xFF) {
+    if !allowed_type(kind) {
         return Err(Stop::Type(kind));
     }
     let flags = le16(header, 6);
@@ -164,7 +196,7 @@ fn check_fields(header: &[u8; HEADER]) -> Result<(), Stop> {
         (60..64, "alignment_pad"),
     ];
     match zeros.into_iter().find(|(place, _)| header[place.clone()].iter().any(|&byte| byte != 0)) {
-        Some((_, field)) => Err(Stop::Reserved { field }),
+        Some((place, field)) => Err(Stop::Reserved { field, byte: place.start }),
         None => Ok(()),
     }
 }

@@ -8,31 +8,48 @@ use std::ffi::{OsStr, OsString};
 use std::path::PathBuf;
 
 /// The options, and whether each takes a value.
-const OPTIONS: [(&str, bool); 10] = [
+const OPTIONS: [(&str, bool); 17] = [
     ("--json", false),
     ("--help", false),
     ("--version", false),
+    ("--quiet", false),
     ("--create", false),
+    ("--dry-run", false),
+    ("--accept-older", false),
+    ("--discard-tail", false),
+    ("--no-final-newline", false),
+    ("--round", false),
     ("--component", true),
     ("--segment", true),
     ("--to", true),
     ("--retire", true),
     ("--time", true),
     ("--vectors", true),
+    ("--wait", true),
 ];
+/// Short names.
+const SHORT: [(&str, &str); 3] = [("-h", "--help"), ("-V", "--version"), ("-q", "--quiet")];
 /// The one option that may be given several times.
 pub const REPEATED: &str = "--retire";
 
-/// Whether `--json` is among the options. It is looked for before the words are understood,
-/// so that wrong words can be told in JSON too.
-pub fn wants_json(words: &[OsString]) -> bool {
+/// The option that a word names, whether it takes a value, and the value behind a `=` if one
+/// stands there; none where it names no option.
+fn option(word: &OsStr) -> Option<(&'static str, bool, Option<OsString>)> {
+    let text = word.to_str()?;
+    let (name, value) = text.split_once('=').map_or((text, None), |(name, value)| (name, Some(value.into())));
+    let name = SHORT.iter().find(|(short, _)| *short == name).map_or(name, |(_, long)| long);
+    OPTIONS.iter().find(|(other, _)| *other == name).map(|(name, valued)| (*name, *valued, value))
+}
+
+/// Whether an option without a value is among the words. It is looked for before the words
+/// are understood, so that wrong words can be told in JSON too.
+pub fn wishes(words: &[OsString], wanted: &str) -> bool {
     let mut words = words.iter().take_while(|word| *word != "--");
     while let Some(word) = words.next() {
-        if word == "--json" {
-            return true;
-        }
-        if OPTIONS.iter().any(|(name, valued)| *valued && word == *name) {
-            words.next();
+        match option(word) {
+            Some((name, false, None)) if name == wanted => return true,
+            Some((_, true, None)) => drop(words.next()),
+            _ => (),
         }
     }
     false
@@ -57,13 +74,18 @@ impl Words {
                 split.plain.push(word);
                 continue;
             }
-            let known = OPTIONS.iter().find(|(name, _)| word == *name);
-            let &(name, valued) = known.ok_or_else(|| usage(format!("unknown option '{}'", word.to_string_lossy())))?;
+            let unknown = || usage(format!("unknown option '{}'", word.to_string_lossy()));
+            let (name, valued, value) = option(&word).ok_or_else(unknown)?;
             if name != REPEATED && split.options.iter().any(|(other, _)| *other == name) {
                 return Err(usage(format!("{name} is given twice")));
             }
-            let value = if valued { words.next() } else { Some(OsString::new()) };
-            split.options.push((name, value.ok_or_else(|| usage(format!("{name} needs a value")))?));
+            let value = match (valued, value) {
+                (true, None) => words.next().ok_or_else(|| usage(format!("{name} needs a value")))?,
+                (true, Some(value)) => value,
+                (false, None) => OsString::new(),
+                (false, Some(_)) => return Err(usage(format!("{name} takes no value"))),
+            };
+            split.options.push((name, value));
         }
         Ok(split)
     }
@@ -97,9 +119,13 @@ impl Words {
         Ok(self.plain)
     }
 
-    pub fn only_file(self, command: &str) -> Result<PathBuf, Failure> {
-        let file = self.finish(command, 1)?.pop();
-        file.map(PathBuf::from).ok_or_else(|| usage(format!("{command} needs a FILE")))
+    /// One FILE or several.
+    pub fn files(self, command: &str) -> Result<Vec<PathBuf>, Failure> {
+        let files = self.finish(command, usize::MAX)?;
+        if files.is_empty() {
+            return Err(usage(format!("{command} needs a FILE")));
+        }
+        Ok(files.into_iter().map(PathBuf::from).collect())
     }
 }
 

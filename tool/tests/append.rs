@@ -35,13 +35,16 @@ fn what_is_accepted_is_what_the_binding_makes() {
 fn what_is_told() {
     let place = Place::new("told", &sample("torn.rvf"), &small_batch());
     let ran = place.append(&["--retire", "5", "--time", "9", "--retire", "2", "--json"]);
-    let wanted = "{\"segments\":[7,8],\"manifest\":9,\"entries\":9,\"end\":18752,\"retired\":[5,2],\"removed\":150,\"time\":9}";
+    let wanted = "{\"segments\":[7,8],\"manifest\":9,\"entries\":9,\"end\":18752,\"retired\":[5,2],\"retired_segments\":[\
+                  {\"id\":5,\"type\":1,\"name\":\"VEC\",\"length\":128,\"time\":3000},\
+                  {\"id\":2,\"type\":1,\"name\":\"VEC\",\"length\":128,\"time\":2000}],\"removed\":150,\"time\":9}";
     assert_eq!((ran.status, ran.json()), (0, wanted));
     assert!(bytes_of(&place.file) == appended(&sample("torn.rvf"), &small_batch(), &[5, 2], 9).expect("accepted"));
     let place = Place::new("told-text", &sample("clean.rvf"), &small_batch());
     let ran = place.append(&["--retire", "5"]);
     let file = text(&place.file);
-    assert_eq!(ran.text(), format!("{file}: appended segments 7 to 8 and manifest 9; 9 entries, 18752 bytes\nretired: 5\n"));
+    let retired = "retired segment 5: VEC, 128 bytes, time 3000 (1970-01-01 00:00:00 UTC)\n";
+    assert_eq!(ran.text(), format!("{file}: appended segments 7 to 8 and manifest 9; 9 entries, 18752 bytes\n{retired}"));
 }
 
 /// Without `--time` the segments carry the system's time.
@@ -65,7 +68,6 @@ fn retire_is_an_append_of_an_empty_batch() {
     for ids in [&["2"][..], &["3", "3"], &["0"], &["1"], &["99"], &["18446744073709551615"]] {
         let ran = rvf(&[&["retire", text(&place.file)], ids].concat());
         assert_eq!((ran.status, ran.text()), (11, ""), "{ids:?}");
-        assert!(ran.stderr.contains("'rvf list' shows the segments"), "{}", ran.stderr);
         assert!(bytes_of(&place.file) == before);
     }
 }
@@ -111,7 +113,9 @@ fn refused_appends_change_nothing() {
         let ran = place.append(&[words, &["--json"]].concat());
         assert_eq!(ran.status, number, "{}", ran.stderr);
         assert!(ran.json().starts_with(&format!("{{\"refused\":{number},")));
-        assert!(ran.stderr.starts_with(&format!("rvf: {}: refused {number}: ", text(&place.file))), "{}", ran.stderr);
+        // A broken batch is the batch's fault.
+        let blamed = text(if number == 7 || number == 10 { &place.batch } else { &place.file });
+        assert!(ran.stderr.starts_with(&format!("rvf: {blamed}: refused {number}: ")), "{}", ran.stderr);
         assert!(bytes_of(&place.file) == file);
     }
 }

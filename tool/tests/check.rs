@@ -3,7 +3,7 @@
 
 mod common;
 
-use common::{appended, folder, put, rvf, sample, sample_path, small_vectors, Ran};
+use common::{answers, appended, folder, put, rvf, sample, sample_path, small_vectors, Ran};
 use rvf::Body;
 use rvf_tool::check::{check, Checked, Weight};
 use rvf_tool::walk::{walk, Stop};
@@ -31,20 +31,23 @@ fn every_reason_to_stop() {
         (8, 3, Stop::Id { id: 1, before: 1 }),
         (23, 0x80, Stop::PastEnd { end: (THIRD + 64 + 128) as u128 + (1 << 63), length }),
         (32, 1, Stop::Algorithm(1)),
-        (33, 1, Stop::Reserved { field: "compression" }),
-        (35, 1, Stop::Reserved { field: "reserved_0" }),
-        (36, 1, Stop::Reserved { field: "reserved_1" }),
-        (59, 1, Stop::Reserved { field: "uncompressed_len" }),
-        (60, 1, Stop::Reserved { field: "alignment_pad" }),
+        (33, 1, Stop::Reserved { field: "compression", byte: 33 }),
+        (35, 1, Stop::Reserved { field: "reserved_0", byte: 34 }),
+        (36, 1, Stop::Reserved { field: "reserved_1", byte: 36 }),
+        (59, 1, Stop::Reserved { field: "uncompressed_len", byte: 56 }),
+        (60, 1, Stop::Reserved { field: "alignment_pad", byte: 60 }),
     ];
     for (byte, bits, why) in cases {
         let walk = walk(&changed(THIRD + byte, bits));
         assert_eq!((walk.links.len(), walk.stopped, walk.why), (2, THIRD, why), "byte {byte}");
+        // The field that breaks the rule begins at the changed byte or up to seven before it.
+        assert!((THIRD + byte - 7..=THIRD + byte).contains(&why.byte(THIRD)), "byte {byte}: {}", why.byte(THIRD));
     }
     // The note, the fourth segment, has fourteen bytes and then padding.
     let note = THIRD + 192;
     let padded = walk(&changed(note + 64 + 14, 1));
-    assert_eq!((padded.stopped, padded.why), (note, Stop::Padding { at: note + 78 }));
+    assert_eq!((padded.stopped, padded.why), (note, Stop::Padding { id: 3, at: note + 78 }));
+    assert_eq!(padded.why.to_string(), "padding of segment 3 at byte 4686 is not zero");
     let file = sample("clean.rvf");
     let short = walk(&file[..note + 63]);
     assert_eq!((short.stopped, short.why), (note, Stop::Room { left: 63 }));
@@ -60,18 +63,31 @@ fn checked(file: &[u8]) -> Checked {
     check(file).expect("the file is within the limit")
 }
 
-/// The file's own manifest is damaged: the one before it is the file's.
+/// The file's own manifest is damaged: the one before it is the file's, and what is lost is a fault.
 #[test]
-fn a_damaged_manifest_is_a_remark_where_an_older_one_stands() {
-    let file = changed(13_824 - 2, 1);
-    let checked = checked(&file);
+fn a_damaged_newest_manifest_is_a_fault() {
+    let checked = checked(&changed(13_824 - 2, 1));
     assert_eq!(checked.manifest.as_ref().map(|(manifest, _)| manifest.id), Some(4));
-    assert_eq!(weights(&checked), (0, 2));
-    let [behind, manifest] = &checked.findings[..] else { panic!("{:?}", checked.findings) };
-    assert!(behind.what.starts_with("4672 bytes lie behind the manifest's end"), "{}", behind.what);
-    assert!(behind.what.ends_with(": 2 complete segments"), "{}", behind.what);
-    assert!(manifest.what.ends_with("(MANIFEST) is no confirmed manifest: its content hash differs"), "{}", manifest.what);
-    assert!(manifest.effect.starts_with("its batch is not in the store; keep a copy"), "{}", manifest.effect);
+    assert_eq!(weights(&checked), (1, 0));
+    let fault = &checked.findings[0];
+    let wanted = "the chain breaks: segment 6 (MANIFEST) is no confirmed manifest: its content hash differs";
+    assert_eq!((fault.offset, fault.what.as_str()), (9_344, wanted));
+    let effect = "4672 bytes behind byte 9152 are lost, not cut short: manifest 6 at byte 9344 among them\n\
+                  what manifest 4 answers may be old: get, append and retire stop here";
+    assert_eq!(fault.effect, effect);
+}
+
+/// An older manifest is in the directory, and nothing but its own payload depends on it.
+#[test]
+fn a_damaged_older_manifest_is_a_remark() {
+    let file = changed(4_736 + 64 + 100, 1);
+    let checked = checked(&file);
+    assert_eq!(weights(&checked), (0, 1));
+    let remark = &checked.findings[0];
+    assert_eq!(remark.what, "segment 4 (MANIFEST) is no confirmed manifest: its content hash differs");
+    assert_eq!(remark.effect, "reading its payload refuses 4; nothing else depends on it");
+    assert_eq!(rvf::payload(&file, 4), Err(rvf::Refusal::ContentHash));
+    assert_eq!(answers(&file).vectors(), answers(&sample("clean.rvf")).vectors());
 }
 
 /// No manifest at all: one fault, and the reason why the chain stops.
@@ -82,7 +98,7 @@ fn without_a_manifest_there_is_one_fault() {
     assert_eq!(weights(&checked), (1, 0));
     let fault = &checked.findings[0];
     assert_eq!(fault.refusal.map(|refusal| refusal.number()), Some(2));
-    assert!(fault.what.contains("stops at byte 192: the segment there would end at byte 4416"), "{}", fault.what);
+    assert_eq!(fault.what, "no confirmed manifest: it holds a first batch that was cut at byte 300; nothing was in the store before");
     assert_eq!(fault.effect, "every reading call and every append refuses 2");
 }
 
@@ -136,7 +152,10 @@ fn the_program_says_it_in_text_and_in_json() {
     assert_eq!(statuses, [0, 0, 0, 65]);
     let damaged = run(&sample_path("damaged.rvf"), &[]);
     assert!(damaged.text().contains("\nFAULT  byte 9152: segment 5 (VEC, live): its content hash differs\n"));
-    assert!(damaged.text().contains("\n1 fault, 0 remarks\nnext: 'rvf retire "));
+    // First what brings the present position back, then what brings an older one.
+    let next = "\n1 fault, 0 remarks\nnext: append the batch again and retire what is bad in one step: 'rvf append ";
+    assert!(damaged.text().contains(next), "{}", damaged.text());
+    assert!(damaged.text().ends_with(" 5'; older vectors with the same ids are answered from then on\n"), "{}", damaged.text());
     let damaged = run(&sample_path("damaged.rvf"), &["--json"]);
     assert_eq!(damaged.status, 65);
     assert!(damaged.json().contains("{\"kind\":\"fault\",\"offset\":9152,\"segment\":5,\"refused\":4,"), "{}", damaged.json());
@@ -147,16 +166,7 @@ fn the_program_says_it_in_text_and_in_json() {
     put(&empty, b"");
     assert_eq!(run(&empty, &[]).status, 65);
     assert!(run(&empty, &[]).text().ends_with(" BATCH' starts a store in it\n"));
-    assert!(run(&empty, &["--json"]).json().contains("\"what\":\"the file is empty\""));
-}
-
-#[test]
-fn a_torn_first_batch_comes_with_advice() {
-    let torn = folder("first").join("f.rvf");
-    put(&torn, &sample("clean.rvf")[..300]);
-    let ran = run(&torn, &[]);
-    assert_eq!(ran.status, 65);
-    assert!(ran.text().contains("\n1 fault, 0 remarks\nnext: take a copy from elsewhere; "), "{}", ran.text());
+    assert!(run(&empty, &["--json"]).json().contains("\"what\":\"no confirmed manifest: the file is empty\""));
 }
 
 /// What the advice says is what helps.

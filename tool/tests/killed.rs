@@ -18,7 +18,11 @@ fn limited(place: &Place, blocks: usize, ignoring: bool) -> Output {
     // No core file, should the signal leave one.
     let script = format!("ulimit -c 0; {trap}ulimit -f {blocks}; exec \"$0\" append \"$1\" \"$2\" --time {TIME}");
     let mut shell = Command::new("sh");
-    shell.args(["-c", &script, env!("CARGO_BIN_EXE_rvf")]).args([&place.file, &place.batch]).output().expect("the shell runs")
+    shell
+        .args(["-c", &script, env!("CARGO_BIN_EXE_rvf")])
+        .args([&place.file, &place.batch])
+        .output()
+        .expect("the shell runs")
 }
 
 /// An append that is to be stopped: the file before it and after it.
@@ -92,34 +96,62 @@ fn large() -> Stopped {
     let body = vec![3; 1_000_000];
     let batch = rvf::batch(&[Body { kind: 8, flags: 0, bytes: &body }]);
     let mut old = sample("clean.rvf");
-    for time in 0..3 {
+    for time in 0..2 {
         old = appended(&old, &batch, &[], time).expect("accepted");
     }
     Stopped::new("kill", old, &batch)
 }
 
-/// Killed at moments spread over the time that an append takes.
-#[test]
-fn killed_at_any_moment() {
-    const KILLS: u32 = 48;
-    let stopped = large();
-    let Place { file, batch } = &stopped.place;
-    let words = ["append", text(file), text(batch), "--time", TIME];
-    let append = || program().args(words).stdout(Stdio::null()).spawn().expect("it starts");
+const KILLS: u32 = 200;
+
+/// Kills the program at moments spread over the time that it takes. `left` looks at what each
+/// kill has left, says whether the work is done, and puts everything back.
+fn kill_often(words: &[&str], mut left: impl FnMut() -> bool) {
+    let start_it = || program().args(words).stdout(Stdio::null()).spawn().expect("it starts");
     let start = Instant::now();
-    assert!(append().wait().expect("it ends").success());
-    let takes = start.elapsed().min(Duration::from_millis(250));
-    assert!(stopped.must_be_sound());
+    assert!(start_it().wait().expect("it ends").success());
+    let takes = start.elapsed().min(Duration::from_millis(100));
+    assert!(left());
     let mut whole = 0;
     for kill in 0..KILLS {
-        let mut child = append();
+        let mut child = start_it();
         std::thread::sleep(takes * kill / KILLS);
         child.kill().expect("it is ours");
         let ended = child.wait().expect("it ends");
-        let done = stopped.must_be_sound();
+        let done = left();
         // Whatever says that it is done is done.
         assert!(done || !ended.success());
         whole += u32::from(done);
     }
     println!("{whole} of {KILLS} were done before the kill");
+    assert!(whole < KILLS, "none was stopped");
+}
+
+#[test]
+fn append_killed_at_any_moment() {
+    let stopped = large();
+    let Place { file, batch } = &stopped.place;
+    kill_often(&["append", text(file), text(batch), "--time", TIME], || stopped.must_be_sound());
+}
+
+/// A first batch: the file is there and whole, or it is not there, and the next one starts it.
+#[test]
+fn create_killed_at_any_moment() {
+    let body = vec![3; 1_000_000];
+    let batch = rvf::batch(&[Body { kind: 8, flags: 0, bytes: &body }]);
+    let place = Place::new("kill-create", b"", &batch);
+    std::fs::remove_file(&place.file).expect("it is there");
+    let once = appended(&[], &batch, &[], 99).expect("accepted");
+    let words = ["append", text(&place.file), text(&place.batch), "--time", TIME, "--create"];
+    kill_often(&words, || {
+        let done = place.file.exists();
+        assert!(!done || bytes_of(&place.file) == once, "a torn first batch");
+        let _ = std::fs::remove_file(&place.file);
+        let again = rvf(&words);
+        assert!(again.status == 0 && bytes_of(&place.file) == once, "{}", again.stderr);
+        std::fs::remove_file(&place.file).expect("it is there");
+        let others = std::fs::read_dir(place.batch.parent().expect("a folder")).expect("it is there").count();
+        assert_eq!(others, 1, "something is left beside the batch");
+        done
+    });
 }

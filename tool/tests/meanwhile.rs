@@ -17,14 +17,35 @@ fn of_two_appends_at_once_one_is_turned_away() {
     let held = std::fs::File::open(&place.file).expect("it opens");
     held.lock().expect("it is locked");
     let ran = place.append(&["--time", "9"]);
-    let said = format!("rvf: {}: another append is at work on it; try again\n", place.file.display());
-    assert_eq!((ran.status, ran.stderr), (74, said));
+    let said = format!("rvf: {}: another append is at work on it; try again, or add --wait SECONDS\n", place.file.display());
+    assert_eq!((ran.status, ran.stderr), (75, said));
     assert!(bytes_of(&place.file) == sample("clean.rvf"));
     // Reading goes on meanwhile.
     assert_eq!(rvf(&["list", text(&place.file)]).status, 0);
     // Not only dropped: a program that another test is just starting may share the handle.
     held.unlock().expect("it was locked");
     assert_eq!(place.append(&["--time", "9"]).status, 0);
+}
+
+/// With `--wait` the second waits for the first, and no longer than it is told to.
+#[test]
+fn the_lock_is_waited_for() {
+    let place = place("waiting");
+    let held = std::fs::File::open(&place.file).expect("it opens");
+    held.lock().expect("it is locked");
+    let start = Instant::now();
+    assert_eq!(place.append(&["--wait=1"]).status, 75);
+    assert!(start.elapsed() >= Duration::from_secs(1));
+    let ran = std::thread::scope(|scope| {
+        let waiting = scope.spawn(|| place.append(&["--wait", "30", "--time", "9"]));
+        std::thread::sleep(Duration::from_millis(300));
+        assert!(bytes_of(&place.file) == sample("clean.rvf"));
+        held.unlock().expect("it was locked");
+        waiting.join().expect("no panic")
+    });
+    assert_eq!(ran.status, 0, "{}", ran.stderr);
+    assert!(start.elapsed() < Duration::from_secs(20));
+    assert!(bytes_of(&place.file) == states(1)[1]);
 }
 
 /// Many appends at once: each is accepted or turned away, and the file holds the accepted.
@@ -35,7 +56,7 @@ fn many_appends_at_once() {
         let runs: Vec<_> = (0..8).map(|_| scope.spawn(|| place.append(&["--time", "9"]).status)).collect();
         runs.into_iter().map(|run| run.join().expect("no panic")).collect()
     });
-    assert!(statuses.iter().all(|status| [0, 74].contains(status)), "{statuses:?}");
+    assert!(statuses.iter().all(|status| [0, 75].contains(status)), "{statuses:?}");
     let accepted = statuses.iter().filter(|status| **status == 0).count();
     assert!(accepted >= 1);
     let states = states(accepted);

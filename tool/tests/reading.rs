@@ -125,7 +125,7 @@ fn a_payload_goes_out_as_it_is() {
 fn refusals_give_their_number() {
     let cases: [(&str, &[&str], i32, &str); 7] = [
         ("clean.rvf", &["get", "FILE", "8"], 8, "there is no such vector"),
-        ("clean.rvf", &["get", "FILE", "7", "--component", "3"], 8, "there is no such vector"),
+        ("clean.rvf", &["get", "FILE", "7", "--component", "3"], 8, "the vector has no such component"),
         ("clean.rvf", &["get", "FILE", "--segment", "0"], 3, "no live segment"),
         ("clean.rvf", &["get", "FILE", "--segment", "6"], 3, "no live segment"),
         ("damaged.rvf", &["get", "FILE", "7"], 4, "a segment's content hash differs"),

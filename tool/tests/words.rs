@@ -11,13 +11,20 @@ use std::time::{Duration, Instant};
 
 #[test]
 fn wrong_words_are_named() {
-    let cases: [(&[&str], &str); 26] = [
+    let cases: [(&[&str], &str); 33] = [
         (&[], "name a command"),
         (&["show"], "unknown command 'show'"),
         (&["help", "show"], "unknown command 'show'"),
         (&["show", "--help"], "unknown command 'show'"),
         (&["list"], "rvf list needs a FILE"),
-        (&["list", "a", "b"], "rvf list has no use for 'b'"),
+        (&["salvage", "a", "b", "c"], "rvf salvage has no use for 'c'"),
+        (&["salvage", "a"], "rvf salvage needs a FILE and the path of a NEW one"),
+        (&["check"], "rvf check needs a FILE"),
+        (&["list", "a", "--quiet=yes"], "--quiet takes no value"),
+        (&["list", "a", "-q", "--quiet"], "--quiet is given twice"),
+        (&["get", "a", "1", "--dry-run"], "rvf get takes no --dry-run"),
+        (&["get", "a", "1", "--component=x"], "--component must be a whole number"),
+        (&["append", "a", "b", "--round"], "go with --vectors only"),
         (&["list", "a", "--create"], "rvf list takes no --create"),
         (&["list", "a", "-x"], "unknown option '-x'"),
         (&["check", "--time", "1", "a"], "rvf check takes no --time"),
@@ -66,7 +73,9 @@ fn help_and_version() {
     let all = rvf(&["help"]);
     assert_eq!(all.status, 0);
     assert_eq!(rvf(&["--help"]).text(), all.text());
-    for command in ["list", "check", "get", "append", "retire"] {
+    assert_eq!(rvf(&["-h"]).text(), all.text());
+    assert_eq!(rvf(&["-V"]).text(), "rvf 0.1.0\n");
+    for command in ["list", "check", "get", "append", "retire", "salvage"] {
         assert!(all.text().contains(&format!("  rvf {command} FILE")));
         let about = rvf(&[command, "--help"]);
         assert!(about.status == 0 && about.text().starts_with(&format!("rvf {command} FILE")));
@@ -198,12 +207,22 @@ fn a_closed_output_is_no_failure() {
     assert_eq!((child.wait().expect("it ends").code(), said.as_str()), (Some(0), ""));
 }
 
-/// An output that takes nothing more is a failure.
+/// An output that takes nothing more is a failure with a status of its own: the work is done.
 #[cfg(target_os = "linux")]
 #[test]
 fn a_full_output_is_a_failure() {
     let full = File::options().write(true).open("/dev/full").expect("the device is there");
     let ran = program().arg("help").stdout(full).output().expect("the program runs");
-    assert_eq!(ran.status.code(), Some(74));
+    assert_eq!(ran.status.code(), Some(73));
     assert!(String::from_utf8_lossy(&ran.stderr).starts_with("rvf: standard output: "));
+    // An append is done all the same, and a refusal stays one.
+    let place = common::Place::new("full-output", &sample("clean.rvf"), &common::small_batch());
+    let run = |words: &[&str]| {
+        let full = File::options().write(true).open("/dev/full").expect("the device is there");
+        program().args(words).stdout(full).output().expect("the program runs").status.code()
+    };
+    let (file, batch) = (common::text(&place.file), common::text(&place.batch));
+    assert_eq!(run(&["append", file, batch, "--time", "9"]), Some(73));
+    assert!(common::bytes_of(&place.file) == common::appended(&sample("clean.rvf"), &common::small_batch(), &[], 9).expect("accepted"));
+    assert_eq!(run(&["get", file, "99", "--json"]), Some(8));
 }

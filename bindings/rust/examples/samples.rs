@@ -67,6 +67,22 @@ fn nested(clean: &[u8]) -> Result<Vec<u8>, Refusal> {
     append(&[], &[note(clean)], &[], 5_000)
 }
 
+/// One batch of u8 vectors of dim 1 with the ids of the rules' example, a restart after every two.
+fn restarts() -> Result<Vec<u8>, Refusal> {
+    let encoding = Encoding::Delta { interval: 2 };
+    let (ids, columns) = (&[100, 105, 108, 120, 200], &[1, 2, 3, 4, 5]);
+    let payload = rvf::vectors(&Vectors { ids, columns, dim: 1, dtype: Dtype::U8, tier: 0, encoding })?;
+    append(&[], &[vec(&payload)], &[], 6_000)
+}
+
+/// The clean file with one bit flipped: in the padding behind the note, in the header of the
+/// second batch's vectors, in the newest manifest's entry for the first segment.
+fn flipped(clean: &[u8], at: usize, bit: u8) -> Vec<u8> {
+    let mut file = clean.to_vec();
+    file[at] ^= 1 << bit;
+    file
+}
+
 fn main() -> Result<(), Box<dyn std::error::Error>> {
     let folder = std::env::args().nth(1).ok_or("name the folder to write to")?;
     let clean = clean()?;
@@ -75,6 +91,10 @@ fn main() -> Result<(), Box<dyn std::error::Error>> {
         ("torn.rvf", torn(&clean)?),
         ("damaged.rvf", damaged(&clean)?),
         ("nested.rvf", nested(&clean)?),
+        ("restarts.rvf", restarts()?),
+        ("flipped_padding.rvf", flipped(&clean, 4_692, 2)),
+        ("flipped_header.rvf", flipped(&clean, 4_423, 7)),
+        ("flipped_manifest.rvf", flipped(&clean, 9_344 + 64 + 8 + 41, 0)),
         ("clean.rvf", clean),
     ];
     for (name, bytes) in files {

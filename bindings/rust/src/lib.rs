@@ -4,6 +4,7 @@
 //! changed nothing. What each call answers, for all input, is proved of the library
 //! (`docs/CLAIMS.md`); the few lines here hand slices over and give the numbers names.
 
+mod lost;
 mod maps;
 mod payloads;
 mod reading;
@@ -11,6 +12,7 @@ mod refusal;
 pub mod sys;
 mod writing;
 
+pub use lost::{lost_behind, Lost, LostManifest};
 pub use maps::{read_ids, read_varint, write_ids, write_varint, IDS_LIMIT};
 pub use payloads::{check_vectors, vector_of, vector_of_into};
 pub use reading::{

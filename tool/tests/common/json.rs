@@ -14,6 +14,7 @@ fn value(text: &[u8]) -> Option<&[u8]> {
         b'[' => items(&text[1..], b']', value),
         b'"' => string(text),
         b'n' => text.strip_prefix(b"null"),
+        b't' => text.strip_prefix(b"true"),
         _ => number(text),
     }
 }

@@ -6,6 +6,7 @@
 
 pub mod cases;
 pub mod json;
+pub mod stores;
 
 use rvf::{Body, Component, Dtype, Encoding, Entry, Refusal, Vector, Vectors};
 use std::ffi::OsStr;
@@ -33,6 +34,16 @@ impl Ran {
         json::must_be_valid(text);
         text
     }
+}
+
+/// The lines of a refusal behind the first, without `rvf: `.
+#[track_caller]
+pub fn why(ran: &Ran, blamed: &Path, number: i32) -> Vec<String> {
+    assert_eq!((ran.status, ran.text()), (number, ""), "{}", ran.stderr);
+    let mut lines = ran.stderr.lines().map(|line| line.strip_prefix("rvf: ").expect("the program's name").to_string());
+    let first = lines.next().expect("a line");
+    assert!(first.starts_with(&format!("{}: refused {number}: ", blamed.display())), "{first}");
+    lines.collect()
 }
 
 pub fn program() -> Command {
@@ -162,6 +173,12 @@ pub struct Answers {
     payloads: Vec<Result<(usize, Vec<u8>), Refusal>>,
     vectors: Vec<Result<Vector, Refusal>>,
     components: Vec<Result<Component, Refusal>>,
+}
+
+impl Answers {
+    pub fn vectors(&self) -> &[Result<Vector, Refusal>] {
+        &self.vectors
+    }
 }
 
 pub fn answers(file: &[u8]) -> Answers {
