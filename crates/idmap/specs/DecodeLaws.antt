@@ -37,6 +37,10 @@ pub broken : (m : MapRead) (out : List ℕ) → m ≡ Broken → (Refused 5 ≡ 
 unfolding mapAnswer idsOf
 broken m out e = rw e (refl, refl)
 
+-- a number that is passed on is 5
+pub broken-by : (m : MapRead) (out : List ℕ) (e : ℕ) → e ≡ 5 → m ≡ Broken → (Refused e ≡ mapAnswer m) × Filled m out
+broken-by m out e f q = rw f (broken m out q)
+
 pub whole : (m : MapRead) (n count : ℕ) (out : List ℕ) → m ≡ Whole n (take count out) → count ≤ length out → (Length n ≡ mapAnswer m) × Filled m out
 unfolding mapAnswer idsOf
 whole m n count out e h = rw (e, length-take-le count out h) (refl, refl)
@@ -46,6 +50,11 @@ pub was-broken : (m : MapRead) (e : ℕ) → mapAnswer m ≡ Refused e → m ≡
 unfolding mapAnswer
 was-broken (Whole n ids) e p = absurd (let z : _≡_ {A = ℕ} 0 1 = cc in omega arith)
 was-broken Broken e p = refl
+
+pub map-five : (m : MapRead) (e : ℕ) → mapAnswer m ≡ Refused e → e ≡ 5
+unfolding mapAnswer
+map-five (Whole n ids) e p = absurd (let z : _≡_ {A = ℕ} 0 1 = cc in omega arith)
+map-five Broken e p = let q : 5 ≡ e = cc in sym q
 
 pub was-whole : (m : MapRead) (n : ℕ) → mapAnswer m ≡ Length n → m ≡ Whole n (idsOf m)
 unfolding mapAnswer idsOf

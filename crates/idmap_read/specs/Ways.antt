@@ -9,7 +9,7 @@ use borrow.Author.Tests.{le-leb, lt-leb}
 use Rattle.octets.specs.Over.{over}
 use Rattle.answers.specs.declared.Wrote.the-variants.{Length, Refused}
 use Rattle.idmap.specs.Decode.{MapRead, Whole, Broken, mapOf, idsOf, mapAnswer, readAnswer, readBuffer}
-use Rattle.idmap.specs.DecodeLaws.{Filled, was-broken, was-whole}
+use Rattle.idmap.specs.DecodeLaws.{Filled, was-broken, map-five, was-whole}
 use Rattle.idmap.specs.Count.{whole-count}
 
 -- both promises, of a map that is broken
@@ -28,8 +28,8 @@ module _ (count : ℕ) (s buf : List ℕ) where
   read-over h = unread (mapOf count s) buf (rw (le-leb 1 count (omega arith), lt-leb count 4096 h))
 
   -- by what taking the map apart answered
-  pub read-broken : (e : ℕ) → mapAnswer (mapOf count s) ≡ Refused e → (Refused 5 ≡ readAnswer (mapOf count s) buf) × (buf ≡ readBuffer (mapOf count s) buf)
-  read-broken e p = unread (mapOf count s) buf (was-broken (mapOf count s) e p)
+  pub read-broken : (e : ℕ) → mapAnswer (mapOf count s) ≡ Refused e → (Refused e ≡ readAnswer (mapOf count s) buf) × (buf ≡ readBuffer (mapOf count s) buf)
+  read-broken e p = rw (map-five (mapOf count s) e p) (unread (mapOf count s) buf (was-broken (mapOf count s) e p))
 
   module _ (n : ℕ) (p : mapAnswer (mapOf count s) ≡ Length n) where
     whole : mapOf count s ≡ Whole n (idsOf (mapOf count s))

@@ -82,11 +82,11 @@ pub fn decode_delta(s: &[u8], count: usize, r: usize, ids: &mut [u64]) -> Wrote
     while i < count {
         let v = varint::read_at(s, pos);
         match v {
-            Varint::Refused(_) => return Wrote::Refused(5),
+            Varint::Refused(number) => return Wrote::Refused(number),
             Varint::Value { value, length } => {
                 let x = next_id(s, i, left, prev, pos - start, 7 + 4 * g, value);
                 match x {
-                    NextId::Refused(_) => return Wrote::Refused(5),
+                    NextId::Refused(number) => return Wrote::Refused(number),
                     NextId::Id(id) => {
                         ids[i] = id;
                         prev = id;

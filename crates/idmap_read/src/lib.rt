@@ -29,7 +29,7 @@ fn read_through(s: &[u8], count: usize, ids: &mut [u64], own: &mut [u64]) -> Wro
 {
     let m = crate::decode::decode(s, count, own);
     match m {
-        Wrote::Refused(_) => Wrote::Refused(5),
+        Wrote::Refused(number) => Wrote::Refused(number),
         Wrote::Length(n) => {
             if ids.len() < count {
                 return Wrote::Refused(9);

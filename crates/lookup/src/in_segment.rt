@@ -43,6 +43,7 @@ pub fn look(file: &[u8], p: usize, id: u64, own: &mut [u64]) -> Located
     let found = vec_read::find::find_with(payload, id, own);
     match found {
         Found::Missing => Located::Nowhere,
+        Found::Refused(number) => Located::Refused(number),
         Found::At {
             offset,
             count,

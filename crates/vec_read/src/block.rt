@@ -36,7 +36,7 @@ pub fn check_block(s: &[u8], count: usize, dim: usize, dtype: u8, own: &mut [u64
     }
     let m = idmap_read::decode::decode(&s[columns..], count, own);
     match m {
-        Wrote::Refused(_) => return Block::Refused(5),
+        Wrote::Refused(number) => return Block::Refused(number),
         Wrote::Length(n) => {
             let end = columns + n;
             if s.len() - end < 4 {

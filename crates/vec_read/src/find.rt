@@ -10,7 +10,8 @@ ghost use Rattle.answers.specs.limits.Limits.{maxVectors};
 use answers::Wrote;
 use octets::numbers::Index;
 
-// Where a vector stands: its block's offset, count, dim and dtype, and which vector of the block it is.
+// Where a vector stands: its block's offset, count, dim and dtype, and which vector of the block it is; or nowhere. A map
+// that could not be read would be a refusal, not a vector that is missing; a sound payload has none.
 pub enum Found {
     At {
         offset: usize,
@@ -20,6 +21,7 @@ pub enum Found {
         index: usize,
     },
     Missing,
+    Refused(u32),
 }
 
 // The search with a list of our own for the ids of a block.
@@ -37,7 +39,7 @@ pub fn find_with(s: &[u8], id: u64, own: &mut [u64]) -> Found
         let start = offset + count * dim * crate::width::width_of(dtype as u64);
         let m = idmap_read::decode::decode(&s[start..], count, own);
         match m {
-            Wrote::Refused(_) => return Found::Missing,
+            Wrote::Refused(number) => return Found::Refused(number),
             Wrote::Length(_) => {
                 let place = octets::numbers::index_of(own, count, id);
                 match place {

@@ -23,6 +23,7 @@ pub fn read(payload: &[u8], id: u64, buf: &mut [u8]) -> Vector
     let found = crate::find::find(payload, id);
     match found {
         Found::Missing => Vector::Refused(8),
+        Found::Refused(number) => Vector::Refused(number),
         Found::At {
             offset,
             count,

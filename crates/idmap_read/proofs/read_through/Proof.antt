@@ -11,20 +11,20 @@ returns : tie.Need-returns
 returns c =
     let d = c .before .before .before .before .before .before in
     let s = d .before .before .before .before .before in
-    read-short (s .args .count) (s .args .s .now) _ _ (sym (d .decode .ensures .0) ∙ c .before .before .m .given .1) (omega arith)
+    read-short (s .args .count) (s .args .s .now) _ _ (sym (d .decode .ensures .0) ∙ c .before .before .m2 .given .1) (omega arith)
 
 returns-2 : tie.Need-returns-2
 returns-2 c =
-    let d = c .before .before .before .before in
+    let d = c .before .before .before .before .before in
     let s = d .before .before .before .before .before in
-    read-broken (s .args .count) (s .args .s .now) _ _ (sym (d .decode .ensures .0) ∙ c .enum-told .given .1)
+    read-broken (s .args .count) (s .args .s .now) _ _ (sym (d .decode .ensures .0) ∙ c .before .m .given .1)
 
 returns-3 : tie.Need-returns-3
 returns-3 c =
     let m = c .before .before .before .before .before .before .before in
     let d = m .before .before .before .before in
     let s = d .before .before .before .before .before in
-    read-done (s .args .count) (s .args .s .now) _ _ (sym (d .decode .ensures .0) ∙ m .m .given .1) _ _
+    read-done (s .args .count) (s .args .s .now) _ _ (sym (d .decode .ensures .0) ∙ m .m2 .given .1) _ _
     (d .decode .ensures .1) (omega arith) (c .before .before .copy-ids .ensures)
 
 pub read-through-spec : {M : Type 1} → statement M

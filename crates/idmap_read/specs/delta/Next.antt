@@ -1,7 +1,7 @@
 -- The next id of a delta map, and the laws of the ways out of the step that finds it.
 -- Assumes nothing.
 use Prim.Native.Nat.{ℕ, suc, _+_, _-_, _*_, _^_, _≤_, _<_}
-use mathlib.Core.Path.{_≡_, refl}
+use mathlib.Core.Path.{_≡_, refl, sym}
 use mathlib.Core.Bool.{Bool, true, false, cond}
 use mathlib.Core.List.{List, []}
 use native.Mathlib.Omega.{arith}
@@ -38,6 +38,14 @@ not-held left low at offs v e p = pick (idHeld left low at offs v) p
     pick : (t : Bool) → cond t (Id (idOf left low v)) (Refused 5) ≡ Refused e → t ≡ false
     pick true q = absurd (let z : _≡_ {A = ℕ} 0 1 = cc in omega arith)
     pick false q = refl
+
+pub next-five : (left low at : ℕ) (offs : List ℕ) (v e : ℕ) → nextOf left low at offs v ≡ Refused e → e ≡ 5
+unfolding nextOf
+next-five left low at offs v e p = pick (idHeld left low at offs v) p
+  where
+    pick : (t : Bool) → cond t (Id (idOf left low v)) (Refused 5) ≡ Refused e → e ≡ 5
+    pick true q = absurd (let z : _≡_ {A = ℕ} 0 1 = cc in omega arith)
+    pick false q = let z : 5 ≡ e = cc in sym z
 
 -- a turn of the reading loop, by the answer of the step
 module _ (s : List ℕ) (count r start i left prev pos g : ℕ) (ids : List ℕ) (st : DeltaAt s count r start i left prev pos g ids) (h : i < count)

@@ -12,6 +12,7 @@ use Rattle.octets.specs.le.Le.{leAt}
 use Rattle.crc32c.specs.Crc.{crcOf}
 use Rattle.answers.specs.declared.Wrote.the-variants.{Length as MapLength, Refused as MapRefused}
 use Rattle.idmap.specs.Decode.{MapRead, mapOf, mapAnswer}
+use Rattle.idmap.specs.DecodeLaws.{map-five}
 use Rattle.vecseg.specs.Payload.{Line, width, columnsLength, filled, BlockRead, SoundBlock, BadBlock, blockEnd, blockOf}
 use Rattle.vecseg.specs.BlockLaws.{block-short, block-broken, block-end, block-map-fits, end-short, end-checksum, end-padding, end-sound}
 use Rattle.vec_read.specs.declared.block.Block.{Block}
@@ -66,9 +67,10 @@ module _ (s : List ℕ) (count dim dtype columns : ℕ) (is : columns ≡ column
         → f (mapOf count (drop (columnsLength (lineWith count dim dtype)) s)) ≡ a
     as-map f a p = ap (λ (t : List ℕ). f (mapOf count t)) (ap (λ (n : ℕ). drop n s) (sym is) ∙ sym (tail-all s columns)) ∙ p
 
-    pub check-broken : (e : ℕ) → mapAnswer (mapOf count (take (length s - columns) (drop columns s))) ≡ MapRefused e → Refused 5 ≡ blockAnswer (blockOf (lineWith count dim dtype) s)
+    pub check-broken : (e : ℕ) → mapAnswer (mapOf count (take (length s - columns) (drop columns s))) ≡ MapRefused e → Refused e ≡ blockAnswer (blockOf (lineWith count dim dtype) s)
     unfolding lineWith
-    check-broken e p = answers-bad _ 5 (block-broken (lineWith count dim dtype) s there e (as-map mapAnswer (MapRefused e) p))
+    check-broken e p =
+        rw (map-five _ e p) (answers-bad _ 5 (block-broken (lineWith count dim dtype) s there e (as-map mapAnswer (MapRefused e) p)))
 
     module _ (n : ℕ) (p : mapAnswer (mapOf count (take (length s - columns) (drop columns s))) ≡ MapLength n) where
       pub check-fits : columns + n ≤ length s

@@ -17,7 +17,7 @@ use Rattle.vecseg.specs.Find.{lineAt, idsAt, Place, findUpTo, findIn}
 use Rattle.octets.specs.numbers.Numbers.{indexOf, indexAnswer}
 use Rattle.vecseg.specs.FindLaws.{IdsGood, ids-good, find-here, find-on}
 use Rattle.vec_read.specs.declared.find.Found.{Found}
-use Rattle.vec_read.specs.declared.find.Found.the-variants.{At, Missing}
+use Rattle.vec_read.specs.declared.find.Found.the-variants.{At, Missing, Refused}
 use Rattle.octets.specs.declared.numbers.Index.the-variants.{Place as IndexPlace, Nowhere}
 use Rattle.octets.specs.numbers.NumbersLaws.{was-nowhere, was-place}
 
@@ -25,6 +25,12 @@ use Rattle.octets.specs.numbers.NumbersLaws.{was-nowhere, was-place}
 unfoldable pub foundOf : Option Place → Found
 foundOf none = Missing
 foundOf (some p) = At (p .line .offset) (p .line .count) (p .line .dim) (p .line .dtype) (p .index)
+
+-- the search in a sound payload refuses nothing
+pub never-refused : (o : Option Place) (n : ℕ) → foundOf o ≡ Refused n → ⊥
+unfolding foundOf
+never-refused none n e = let z : _≡_ {A = ℕ} 0 1 = cc in omega arith
+never-refused (some p) n e = let z : _≡_ {A = ℕ} 0 1 = cc in omega arith
 
 same-place : {o o′ c c′ d d′ t t′ : ℕ} (k : ℕ) → o ≡ o′ → c ≡ c′ → d ≡ d′ → t ≡ t′ → At o c d t k ≡ At o′ c′ d′ t′ k
 same-place k p q r u = rw (p, q, r, u)

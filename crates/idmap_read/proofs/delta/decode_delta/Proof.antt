@@ -4,10 +4,11 @@ use Prim.Native.Nat.{_+_, _-_, _*_, _/_, _≤_}
 use mathlib.Core.Path.{_≡_, refl, sym, _∙_}
 use native.Mathlib.Omega.{arith}
 use lib.ListN.{length}
+use Rattle.varint.specs.Refusal.{refused-five}
 use Rattle.idmap.specs.Decode.{groups}
-use Rattle.idmap.specs.DecodeLaws.{broken, whole}
+use Rattle.idmap.specs.DecodeLaws.{broken, broken-by, whole}
 use Rattle.idmap.specs.DeltaLaws.{DeltaAt, delta-first, delta-restart, delta-bad, delta-inside, delta-last, delta-short, delta-room, groups-few}
-use Rattle.idmap_read.specs.delta.Next.{turn-refused, turn-next}
+use Rattle.idmap_read.specs.delta.Next.{next-five, turn-refused, turn-next}
 use borrow.Author.Needs.{needs}
 use Rattle.idmap_read.proofs.delta.decode_delta.Statement.{statement}
 use Rattle.idmap_read.proofs.delta.decode_delta.Tie as tie
@@ -37,10 +38,12 @@ loop-holds c = (delta-first _ _ _ _ _ (omega arith), refl)
 returns-2 : tie.Need-returns-2 Inv-loop μ-loop
 unfolding groups
 returns-2 c =
-    let l = c .before .before .before .before in
-    broken _ _ (delta-room (l .before .before .before .before .args .r) _ _ (omega arith) ∙ delta-bad _ _ _ _ _ _ _
-    _ _ _ (l .loop .inv .0) (omega arith) (c .enum-told .given .0 .0)
-    (sym (c .before .before .read-at .ensures) ∙ c .enum-told .given .1))
+    let v = c .before in
+    let l = v .before .before .before .before in
+    let e = sym (v .before .before .read-at .ensures) ∙ v .v .given .1 in
+    broken-by _ _ _ (refused-five _ _ e)
+    (delta-room (l .before .before .before .before .args .r) _ _ (omega arith)
+    ∙ delta-bad _ _ _ _ _ _ _ _ _ _ (l .loop .inv .0) (omega arith) (v .v .given .0 .0) e)
 
 sub-next-id : tie.Need-sub-next-id Inv-loop μ-loop
 sub-next-id c = let behind = c .before .before .before .before .before .loop .inv .0 .behind in omega arith
@@ -61,13 +64,14 @@ next-id-requires c κs =
 returns-3 : tie.Need-returns-3 Inv-loop μ-loop
 unfolding groups
 returns-3 c =
-    let v = c .before .before .before .before in
+    let x = c .before in
+    let v = x .before .before .before .before in
     let l = v .before .before .before .before in
-    broken _ _
+    let e = sym (x .before .before .next-id .ensures) ∙ x .x .given .1 in
+    broken-by _ _ _ (next-five _ _ _ _ _ _ e)
     (delta-room (l .before .before .before .before .args .r) _ _ (omega arith)
-    ∙ turn-refused _ _ _ _ _ _ _ _ _ _ (l .loop .inv .0) (omega arith) (v .v .given .0 .0) (v .v .given .0 .1 .0)
-    (sym (v .before .before .read-at .ensures) ∙ v .v .given .1) (c .enum-told2 .given .0 .0)
-    (sym (c .before .before .next-id .ensures) ∙ c .enum-told2 .given .1))
+    ∙ turn-refused _ _ _ _ _ _ _ _ _ _ (l .loop .inv .0) (omega arith) (v .v2 .given .0 .0) (v .v2 .given .0 .1 .0)
+    (sym (v .before .before .read-at .ensures) ∙ v .v2 .given .1) (x .x .given .0 .0) e)
 
 add-pos : tie.Need-add-pos Inv-loop μ-loop
 add-pos c =
@@ -75,7 +79,7 @@ add-pos c =
     omega (
       arith,
       delta-inside _ _ _ _ _ _ _ _ _ _ (v .before .before .before .before .loop .inv .0) (omega arith)
-          (v .v .given .0 .0) (v .v .given .0 .1 .0) (sym (v .before .before .read-at .ensures) ∙ v .v .given .1),
+          (v .v2 .given .0 .0) (v .v2 .given .0 .1 .0) (sym (v .before .before .read-at .ensures) ∙ v .v2 .given .1),
     )
 
 group-after-requires : tie.Need-group-after-requires Inv-loop μ-loop
@@ -86,12 +90,12 @@ loop-again c = (
   rw (c .left-after .ensures, c .before .group-after .ensures)
       (turn-next _ _ _ _ _ _ _ _ _ _
       (c .before .before .before .before .before .before .before .before .before .before .before .loop .inv .0)
-      (omega arith) (c .before .before .before .before .before .before .before .v .given .0 .0)
-      (c .before .before .before .before .before .before .before .v .given .0 .1 .0)
+      (omega arith) (c .before .before .before .before .before .before .before .v2 .given .0 .0)
+      (c .before .before .before .before .before .before .before .v2 .given .0 .1 .0)
       (sym (c .before .before .before .before .before .before .before .before .before .read-at .ensures)
-      ∙ c .before .before .before .before .before .before .before .v .given .1)
-      (c .before .before .before .x .given .0 .0)
-      (sym (c .before .before .before .before .before .next-id .ensures) ∙ c .before .before .before .x .given .1)
+      ∙ c .before .before .before .before .before .before .before .v2 .given .1)
+      (c .before .before .before .x2 .given .0 .0)
+      (sym (c .before .before .before .before .before .next-id .ensures) ∙ c .before .before .before .x2 .given .1)
       (omega arith) (omega arith)),
   search needs,
 )

@@ -3,6 +3,7 @@
 use mathlib.Core.Path.{sym, _∙_}
 use native.Mathlib.Omega.{arith}
 use borrow.Author.Tests.{not-true, not-false}
+use Rattle.vec_read.specs.find.Found.{never-refused}
 use Rattle.lookup.specs.in_segment.Located.{look-torn, look-bad, look-missing, look-found}
 use borrow.Author.Needs.{needs}
 use Rattle.lookup.proofs.in_segment.look.Statement.{statement}
@@ -33,12 +34,17 @@ returns-3 c =
 returns-4 : tie.Need-returns-4
 returns-4 c =
     let fw = c .before .before .before .before .before in
+    absurd (never-refused _ _ (sym (fw .find-with .ensures) ∙ c .before .found .given .1))
+
+returns-5 : tie.Need-returns-5
+returns-5 c =
+    let fw = c .before .before .before .before .before in
     let e2 = fw .before .before in
     let e1 = e2 .before .before .before in
     look-found _ _ _ _ _ (e1 .before .before .u64-at .ensures)
     (sym (e1 .before .is-whole .ensures) ∙ not-false _ (e1 .if1 .left))
     (sym (e2 .before .check .ensures) ∙ e2 .if2 .left) _ _ _ _ _
-    (sym (fw .find-with .ensures) ∙ c .before .found .given .1)
+    (sym (fw .find-with .ensures) ∙ c .before .found2 .given .1)
 
 pub look-spec : {M : Type 1} → statement M
 look-spec =
@@ -46,5 +52,5 @@ look-spec =
     (tie.spec
     (λ c. search needs) (λ c κs. search needs) (λ c κs. search needs) returns (λ c. search needs)
     (λ c. search needs) (λ c. search needs) (λ c. search needs) (λ c. search needs) (λ c κs. search needs)
-    returns-2 find-with-requires (λ c. search needs) (λ c. search needs) (λ c. search needs) returns-3
-    (λ c. search needs) returns-4)
+    returns-2 find-with-requires (λ c. search needs) (λ c. search needs) (λ c. search needs) (λ c. search needs)
+    returns-3 (λ c. search needs) returns-4 (λ c. search needs) returns-5)

@@ -33,9 +33,9 @@ returns c = check-columns _ _ _ _ _ (columns-are _ _ _ _ (c .before .width-of .e
 
 returns-2 : tie.Need-returns-2
 returns-2 c =
-    let d = c .before .before .before .before in
+    let d = c .before .before .before .before .before in
     check-broken _ _ _ _ _ (columns-are _ _ _ _ (d .before .before .before .before .width-of .ensures))
-    (omega arith) _ (sym (d .decode .ensures .0) ∙ c .enum-told .given .1)
+    (omega arith) _ (sym (d .decode .ensures .0) ∙ c .before .m .given .1)
 
 add-end : tie.Need-add-end
 add-end c =
@@ -46,7 +46,7 @@ add-end c =
       arith,
       check-fits (s .args .s .now) (s .args .count) (s .args .dim) (s .args .dtype) _
           (columns-are (s .args .count) (s .args .dim) (s .args .dtype) (wo .width-of .result) (wo .width-of .ensures))
-          (omega arith) (c .before .m .given .0 .0) (sym (d .decode .ensures .0) ∙ c .before .m .given .1),
+          (omega arith) (c .before .m2 .given .0 .0) (sym (d .decode .ensures .0) ∙ c .before .m2 .given .1),
     )
 
 sub-if2 : tie.Need-sub-if2
@@ -58,14 +58,14 @@ sub-if2 c =
       arith,
       check-fits (s .args .s .now) (s .args .count) (s .args .dim) (s .args .dtype) _
           (columns-are (s .args .count) (s .args .dim) (s .args .dtype) (wo .width-of .result) (wo .width-of .ensures))
-          (omega arith) (c .before .m .given .0 .0) (sym (d .decode .ensures .0) ∙ c .before .m .given .1),
+          (omega arith) (c .before .m2 .given .0 .0) (sym (d .decode .ensures .0) ∙ c .before .m2 .given .1),
     )
 
 returns-3 : tie.Need-returns-3
 returns-3 c =
     let d = c .before .before .before .before .before .before in
     check-end _ _ _ _ _ (columns-are _ _ _ _ (d .before .before .before .before .width-of .ensures)) (omega arith)
-    _ (sym (d .decode .ensures .0) ∙ c .before .before .m .given .1) (omega arith)
+    _ (sym (d .decode .ensures .0) ∙ c .before .before .m2 .given .1) (omega arith)
 
 u32-at-requires : tie.Need-u32-at-requires
 u32-at-requires c κs =
@@ -77,7 +77,7 @@ u32-at-requires c κs =
       arith,
       check-fits (s .args .s .now) (s .args .count) (s .args .dim) (s .args .dtype) _
           (columns-are (s .args .count) (s .args .dim) (s .args .dtype) (wo .width-of .result) (wo .width-of .ensures))
-          (omega arith) (m .m .given .0 .0) (sym (d .decode .ensures .0) ∙ m .m .given .1),
+          (omega arith) (m .m2 .given .0 .0) (sym (d .decode .ensures .0) ∙ m .m2 .given .1),
     )
 
 slice-aggregate-checksum : tie.Need-slice-aggregate-checksum
@@ -88,7 +88,7 @@ slice-aggregate-checksum c =
     let s = wo .before .before .before in
     sym (length-take-le _ _ (check-fits (s .args .s .now) (s .args .count) (s .args .dim) (s .args .dtype) _
     (columns-are (s .args .count) (s .args .dim) (s .args .dtype) (wo .width-of .result) (wo .width-of .ensures))
-    (omega arith) (m .m .given .0 .0) (sym (d .decode .ensures .0) ∙ m .m .given .1)))
+    (omega arith) (m .m2 .given .0 .0) (sym (d .decode .ensures .0) ∙ m .m2 .given .1)))
 
 returns-4 : tie.Need-returns-4
 returns-4 c =
@@ -96,7 +96,7 @@ returns-4 c =
     let m = ua .before .before .before in
     let d = m .before .before .before .before in
     check-checksum _ _ _ _ _ (columns-are _ _ _ _ (d .before .before .before .before .width-of .ensures))
-    (omega arith) _ (sym (d .decode .ensures .0) ∙ m .m .given .1) (omega arith)
+    (omega arith) _ (sym (d .decode .ensures .0) ∙ m .m2 .given .1) (omega arith)
     (λ e. c .if3 .taken (ua .u32-at .ensures ∙ e ∙ sym (c .before .checksum .ensures)))
 
 returns-5 : tie.Need-returns-5
@@ -106,7 +106,7 @@ returns-5 c =
     let m = ua .before .before .before in
     let d = m .before .before .before .before in
     check-padding _ _ _ _ _ (columns-are _ _ _ _ (d .before .before .before .before .width-of .ensures))
-    (omega arith) _ (sym (d .decode .ensures .0) ∙ m .m .given .1) (omega arith)
+    (omega arith) _ (sym (d .decode .ensures .0) ∙ m .m2 .given .1) (omega arith)
     (sym (ua .u32-at .ensures) ∙ e3 .if3 .left ∙ e3 .before .checksum .ensures) (sym (c .before .is-filled .ensures) ∙ not-true _ (c .if4 .taken))
 
 returns-6 : tie.Need-returns-6
@@ -116,7 +116,7 @@ returns-6 c =
     let m = ua .before .before .before in
     let d = m .before .before .before .before in
     check-sound _ _ _ _ _ (columns-are _ _ _ _ (d .before .before .before .before .width-of .ensures))
-    (omega arith) _ (sym (d .decode .ensures .0) ∙ m .m .given .1) (omega arith)
+    (omega arith) _ (sym (d .decode .ensures .0) ∙ m .m2 .given .1) (omega arith)
     (sym (ua .u32-at .ensures) ∙ e3 .if3 .left ∙ e3 .before .checksum .ensures)
     (sym (c .before .before .is-filled .ensures) ∙ not-false _ (c .before .if4 .left)) _ (c .round-up .ensures)
 

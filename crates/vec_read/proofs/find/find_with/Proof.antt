@@ -117,7 +117,7 @@ decode-requires c κs =
 
 returns : tie.Need-returns Inv-loop μ-loop
 returns c =
-    let d = c .before .before .before .before in
+    let d = c .before .before .before .before .before in
     let wo = d .before .before .before in
     let ua = wo .before .before in
     let ua2 = ua .before .before in
@@ -127,7 +127,7 @@ returns c =
     (turn-whole (s .args .s .now) (s .pre .0) _ (l .loop .j) (l .loop .inv .0) (ua2 .before .loop-test .taken) _ _
     _ (getD (s .args .s .now) (4 + 12 * (l .loop .j - 1) + 10) 0) _ (ua2 .u32-at2 .ensures)
     (ua .before .u32-at3 .ensures) (ua .u16-at .ensures) refl (wo .width-of .ensures)
-    _ (sym (d .decode .ensures .0) ∙ c .enum-told .given .1))
+    _ (sym (d .decode .ensures .0) ∙ c .before .m .given .1))
 
 index-of-requires : tie.Need-index-of-requires Inv-loop μ-loop
 index-of-requires c κs =
@@ -159,7 +159,7 @@ loop-again c =
       turn-on (s .args .s .now) (s .pre .0) _ (l .loop .j) (l .loop .inv .0) (ua2 .before .loop-test .taken) _ _ _
           (getD (s .args .s .now) (4 + 12 * (l .loop .j - 1) + 10) 0) _ (ua2 .u32-at2 .ensures)
           (ua .before .u32-at3 .ensures) (ua .u16-at .ensures) refl (wo .width-of .ensures)
-          _ (d .decode .ensures .1) (sym (c .before .before .index-of .ensures) ∙ c .enum-told3 .given .1),
+          _ (d .decode .ensures .1) (sym (c .before .before .index-of .ensures) ∙ c .enum-told2 .given .1),
       search needs,
     )
 
