@@ -1,7 +1,8 @@
 // A vector of a file by its id, and a component of one. The search is one; what is found is read off the file.
 ghost use mathlib.Core.Path.{_≡_};
 ghost use Rattle.reading.specs.Answers.{vectorCase, vectorAfter, valueIn};
-ghost use Rattle.reading.specs.Component.{componentCase, bitsCase};
+ghost use Rattle.answers.specs.Answer.{number};
+ghost use Rattle.reading.specs.Component.{componentCase, kindAnswer, bitsCase, bitsAnswer};
 ghost use Rattle.lookup.specs.vector.Value.{Lies};
 use answers::Wrote;
 use crate::in_segment::Located;
@@ -79,7 +80,8 @@ fn value_place(file: &[u8], id: u64, component: u64) -> ValuePlace
 
 // A component of the vector with an id, by its index: 1, 2, the search, then 8.
 pub fn component(file: &[u8], id: u64, index: u64) -> ComponentRead
-    ensures { λ r. ⌜ r ≡ componentCase (valueIn (now (file .entry)) id index) ⌝ }
+    ensures kind { λ r. ⌜ r ≡ componentCase (valueIn (now (file .entry)) id index) ⌝ }
+    ensures number { λ r. ⌜ number (kindAnswer r) ≡ number (bitsAnswer (bitsCase (valueIn (now (file .entry)) id index))) ⌝ }
 {
     let place = value_place(file, id, index);
     match place {

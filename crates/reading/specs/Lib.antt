@@ -5,6 +5,7 @@ pub mod Laws
 pub mod Placed
 pub mod ReadFrom
 pub mod Component
+pub mod ComponentLaws
 pub mod Part
 pub mod PartLaws
 pub mod LiveLaws
