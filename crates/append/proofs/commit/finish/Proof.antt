@@ -128,25 +128,10 @@ returns-2 c =
     let u = c .before .before .before in
     late-ids _ _ _ _ _ (omega (arith, count-new u)) (ap (ltb (2 ^ 64 - 1)) (sym (id-new u)) ∙ sym (c .before .ids-over .ensures) ∙ c .if2 .taken)
 
-next-id-requires : tie.Need-next-id-requires
-next-id-requires c κs = omega (arith, id-fits c)
-
 bodies-end-requires : tie.Need-bodies-end-requires
 bodies-end-requires c κs =
     let s = s (u (c .before)) in
     (s .pre .0 .0, s .pre .1 .small)
-
-add-end : tie.Need-add-end
-add-end c = omega (arith, bodies-small c)
-
-mul-round-up : tie.Need-mul-round-up
-mul-round-up c = omega (arith, bodies-small c)
-
-add-round-up : tie.Need-add-round-up
-add-round-up c = omega (arith, bodies-small c)
-
-round-up-requires : tie.Need-round-up-requires
-round-up-requires c κs = omega (arith, bodies-small c)
 
 add-round-up-2 : tie.Need-add-round-up-2
 add-round-up-2 c =
@@ -236,7 +221,9 @@ pub finish-spec : {M : Type 1} → statement M
 finish-spec =
     tie.close
     (tie.spec
-    u32-at-requires (λ c. search needs) add-count returns ids-over-requires returns-2 next-id-requires
-    bodies-end-requires add-end mul-round-up add-round-up round-up-requires add-round-up-2 round-up-requires-2
-    add-end-2 returns-3 returns-4 add-id put-bodies-requires (λ c. search needs) slice-aggregate-put-manifest
-    slice-aggregate-put-manifest-2 put-manifest-requires (λ c. search needs) (λ c. search needs) returns-5)
+    u32-at-requires (search needs) add-count returns ids-over-requires returns-2
+    (λ c κs. omega (arith, id-fits c)) bodies-end-requires (λ c. omega (arith, bodies-small c))
+    (λ c. omega (arith, bodies-small c)) (λ c. omega (arith, bodies-small c))
+    (λ c κs. omega (arith, bodies-small c)) add-round-up-2 round-up-requires-2 add-end-2 returns-3 returns-4
+    add-id put-bodies-requires (search needs) slice-aggregate-put-manifest slice-aggregate-put-manifest-2
+    put-manifest-requires (search needs) (search needs) returns-5)
