@@ -158,7 +158,8 @@ finish-requires-2 c κs =
     let ends = opened-end _ _ _ _ _ _ (sym (ow .open-with .ensures .0) ∙ f .found2 .given .1) in (
       (
         taken-held (s .args .buf .now) (s .args .n) (s .args .batch .now) (s .args .ids .now) (s .args .timestamp)
-            (omega (arith, e2 .before .if1 .left)) (omega (arith, e2 .if2 .left)) (begins f) (sym (e6 .before .batch-number2 .ensures) ∙ e6 .if6 .left),
+            (omega (arith, e2 .before .if1 .left)) (omega (arith, e2 .if2 .left)) (begins f)
+            (sym (e6 .before .batch-number2 .ensures) ∙ e6 .if6 .left),
         (ow .open-with .kept .1 .0, rs .retire-states .kept .1 .1 .1 .1 .1 .0),
       ),
       base-later _ (s .args .buf .now) _ (s .args .n) _ _ _ _ refl (omega (arith, e2 .before .if1 .left)) (bytes f)
@@ -212,10 +213,9 @@ pub append-spec : {M : Type 1} → statement M
 append-spec =
     tie.close
     (tie.spec
-    returns returns-2 (λ c. search needs) slice-aggregate-open-with (λ c. search needs) (λ c κs. search needs)
-    (λ c. search needs) (λ c. search needs) (λ c. search needs) returns-3 (λ c κs. search needs)
-    (λ c. search needs) returns-4 (λ c. search needs) returns-5 (λ c. search needs) (λ c. search needs)
-    finish-requires (λ c. search needs) (λ c κs. search needs) (λ c. search needs) returns-6 (λ c. search needs)
-    slice-aggregate-retire-states (λ c. search needs) (λ c. search needs) retire-states-requires
-    (λ c. search needs) returns-7 add-finish (λ c. search needs) (λ c. search needs) finish-requires-2
-    (λ c. search needs) returns-8 (λ c. search needs) returns-9 (λ c. search needs) returns-10)
+    returns returns-2 (search needs) slice-aggregate-open-with (search needs) (search needs) (search needs)
+    (search needs) (search needs) returns-3 (search needs) (search needs) returns-4 (search needs) returns-5
+    (search needs) (search needs) finish-requires (search needs) (search needs) (search needs) returns-6
+    (search needs) slice-aggregate-retire-states (search needs) (search needs) retire-states-requires
+    (search needs) returns-7 add-finish (search needs) (search needs) finish-requires-2 (search needs) returns-8
+    (search needs) returns-9 (search needs) returns-10)

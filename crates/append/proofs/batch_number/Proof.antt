@@ -7,9 +7,6 @@ use borrow.Author.Needs.{needs}
 use Rattle.append.proofs.batch_number.Statement.{statement}
 use Rattle.append.proofs.batch_number.Tie as tie
 
-check-requires : tie.Need-check-requires
-check-requires c κs = search needs
-
 returns : tie.Need-returns
 returns c = number-form _ (sym (c .before .check .ensures) ∙ not-true _ (c .if1 .taken))
 
@@ -20,4 +17,4 @@ returns-2 : tie.Need-returns-2
 returns-2 c = number-vectors _ _ (sym (c .before .before .check .ensures) ∙ not-false _ (c .before .if1 .left)) (c .vectors-bad .ensures)
 
 pub batch-number-spec : {M : Type 1} → statement M
-batch-number-spec = tie.close (tie.spec check-requires returns vectors-bad-requires returns-2)
+batch-number-spec = tie.close (tie.spec (search needs) returns vectors-bad-requires returns-2)

@@ -17,12 +17,6 @@ abbrev μ-loop : tie.MeasureT-loop
 loop-holds : tie.Need-loop-holds Inv-loop μ-loop
 loop-holds c = read-first _ _ _ _
 
-mul-offset : tie.Need-mul-offset Inv-loop μ-loop
-mul-offset c = omega arith
-
-shared-slice-read-offset : tie.Need-shared-slice-read-offset Inv-loop μ-loop
-shared-slice-read-offset c = omega arith
-
 add-u64-at : tie.Need-add-u64-at Inv-loop μ-loop
 add-u64-at c = omega (arith, c .before .before .before .before .before .before .before .pre .1 (c .before .before .loop .i) (omega arith))
 
@@ -54,12 +48,6 @@ slice-write-kinds c =
     let l = c .before .before .before .before in
     omega (arith, l .loop .inv .kinds-long, l .before .before .before .before .before .pre .0 .1)
 
-add-i : tie.Need-add-i Inv-loop μ-loop
-add-i c = omega arith
-
-loop-less : tie.Need-loop-less Inv-loop μ-loop
-loop-less c = omega arith
-
 loop-again : tie.Need-loop-again Inv-loop μ-loop
 loop-again c =
     let l = c .before .before .before .before in
@@ -73,6 +61,6 @@ pub read-entries-spec : {M : Type 1} → statement M
 read-entries-spec =
     tie.close
     (tie.spec
-    Inv-loop μ-loop loop-holds mul-offset shared-slice-read-offset add-u64-at u64-at-requires mul-entry-ids
-    slice-write-entry-ids add-kinds shared-slice-read-kinds slice-write-kinds add-i loop-less loop-again
-    (λ c. search needs) (λ c. search needs) returns)
+    Inv-loop μ-loop loop-holds (λ c. omega arith) (λ c. omega arith) add-u64-at u64-at-requires mul-entry-ids
+    slice-write-entry-ids add-kinds shared-slice-read-kinds slice-write-kinds (λ c. omega arith)
+    (λ c. omega arith) loop-again (search needs) (search needs) returns)

@@ -60,12 +60,6 @@ add-u64-at c = omega (arith, room (c .before .before .before))
 u64-at-requires : tie.Need-u64-at-requires
 u64-at-requires c κs = omega (arith, room (c .before .before .before))
 
-add-end : tie.Need-add-end
-add-end c = omega (arith, part c)
-
-part-read-states-end : tie.Need-part-read-states-end
-part-read-states-end c = omega (arith, part (c .before))
-
 read-states-requires : tie.Need-read-states-requires
 read-states-requires c κs =
     let u = c .before .before in
@@ -96,7 +90,8 @@ read-entries-requires c κs =
 
 array-share-prefix-entry-ids : tie.Need-array-share-prefix-entry-ids
 array-share-prefix-entry-ids c =
-    omega (arith, room (c .before .before .before .before .before .before .before .before .before .before .before .before .before .before .before) .1)
+    let k = c .before .before .before .before .before .before .before .before .before .before .before .before .before .before .before in
+    omega (arith, room k .1)
 
 slice-aggregate-mark : tie.Need-slice-aggregate-mark
 slice-aggregate-mark c =
@@ -108,11 +103,8 @@ slice-aggregate-mark c =
 
 array-share-prefix-kinds : tie.Need-array-share-prefix-kinds
 array-share-prefix-kinds c =
-    omega (
-      arith,
-      room
-          (c .before .before .before .before .before .before .before .before .before .before .before .before .before .before .before .before) .1,
-    )
+    let k = c .before .before .before .before .before .before .before .before .before .before .before .before .before .before .before .before in
+    omega (arith, room k .1)
 
 slice-aggregate-mark-2 : tie.Need-slice-aggregate-mark-2
 slice-aggregate-mark-2 c =
@@ -172,8 +164,8 @@ pub retire-states-spec : {M : Type 1} → statement M
 retire-states-spec =
     tie.close
     (tie.spec
-    add-body add-u64-at u64-at-requires add-end (λ c. search needs) (λ c. search needs) part-read-states-end
-    read-states-requires slice-aggregate-read-entries (λ c. search needs) (λ c. search needs)
-    read-entries-requires array-share-prefix-entry-ids slice-aggregate-mark array-share-prefix-kinds
-    slice-aggregate-mark-2 slice-relend-prefix-mark slice-aggregate-mark-3 mark-requires (λ c. search needs)
-    returns)
+    add-body add-u64-at u64-at-requires (λ c. omega (arith, part c)) (search needs) (search needs)
+    (λ c. omega (arith, part (c .before))) read-states-requires slice-aggregate-read-entries (search needs)
+    (search needs) read-entries-requires array-share-prefix-entry-ids slice-aggregate-mark
+    array-share-prefix-kinds slice-aggregate-mark-2 slice-relend-prefix-mark slice-aggregate-mark-3
+    mark-requires (search needs) returns)

@@ -86,9 +86,8 @@ pub confirm-with-spec : {M : Type 1} → statement M
 confirm-with-spec =
     tie.close
     (tie.spec
-    (λ c. search needs) (λ c. search needs) (λ c. search needs) (λ c. search needs) (λ c. search needs)
-    read-states-requires (λ c. search needs) slice-aggregate-states-held states-held-requires
-    (λ c. search needs) returns (λ c κs. search needs) (λ c. search needs) returns-2 (λ c. search needs)
-    slice-aggregate-put-payload put-payload-requires (λ c. search needs) (λ c. search needs) (λ c. search needs)
-    (λ c. search needs) slice-aggregate-same (λ c κs. search needs) (λ c. search needs) (λ c. search needs)
-    returns-3)
+    (search needs) (search needs) (search needs) (search needs) (search needs) read-states-requires
+    (search needs) slice-aggregate-states-held states-held-requires (search needs) returns (search needs)
+    (search needs) returns-2 (search needs) slice-aggregate-put-payload put-payload-requires (search needs)
+    (search needs) (search needs) (search needs) slice-aggregate-same (search needs) (search needs)
+    (search needs) returns-3)

@@ -64,5 +64,5 @@ pub is-confirmed-spec : {M : Type 1} → statement M
 is-confirmed-spec =
     tie.close
     (tie.spec
-    returns returns-2 (λ c. search needs) (λ c. search needs) (λ c κs. search needs) add-if3 returns-3
-    slice-aggregate-confirm-with (λ c. search needs) (λ c. search needs) confirm-with-requires returns-4)
+    returns returns-2 (search needs) (search needs) (search needs) add-if3 returns-3
+    slice-aggregate-confirm-with (search needs) (search needs) confirm-with-requires returns-4)

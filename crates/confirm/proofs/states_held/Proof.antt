@@ -46,6 +46,5 @@ pub states-held-spec : {M : Type 1} → statement M
 states-held-spec =
     tie.close
     (tie.spec
-    Inv-loop μ-loop loop-holds (λ c. search needs) (λ c. search needs) add-kind shared-slice-read-kind
-    (λ c. search needs) (λ c κs. search needs) returns (λ c. search needs) (λ c. search needs) loop-again
-    returns-2)
+    Inv-loop μ-loop loop-holds (search needs) (search needs) add-kind shared-slice-read-kind (search needs)
+    (search needs) returns (search needs) (search needs) loop-again returns-2)

@@ -7,12 +7,6 @@ use borrow.Author.Needs.{needs}
 use Rattle.crc32c.proofs.checksum.Statement.{statement}
 use Rattle.crc32c.proofs.checksum.Tie as tie
 
-lanes-requires : tie.Need-lanes-requires
-lanes-requires c κs = search needs
-
-rest-requires : tie.Need-rest-requires
-rest-requires c κs = search needs
-
 cast-result : tie.Need-cast-result
 cast-result c =
     let s = c .before .before .before .args .«data» .now in
@@ -27,4 +21,4 @@ returns : tie.Need-returns
 returns c = crcOf-by (c .before .before .before .args .«data» .now) (c .rest .result) (c .rest .ensures ∙ c .before .lanes .ensures .0)
 
 pub checksum-spec : {M : Type 1} → statement M
-checksum-spec = tie.close (tie.spec lanes-requires rest-requires cast-result returns)
+checksum-spec = tie.close (tie.spec (search needs) (search needs) cast-result returns)

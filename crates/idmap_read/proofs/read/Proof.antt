@@ -16,5 +16,5 @@ pub read-spec : {M : Type 1} → statement M
 read-spec =
     tie.close
     (tie.spec
-    returns returns-2 (λ c. search needs) (λ c κs. search needs) (λ c. search needs) (λ c. search needs)
-    (λ c. search needs) (λ c κs. search needs) (λ c. search needs) (λ c. search needs))
+    returns returns-2 (search needs) (search needs) (search needs) (λ c. search needs) (search needs)
+    (search needs) (search needs) (λ c. search needs))

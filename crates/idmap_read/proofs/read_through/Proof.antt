@@ -31,5 +31,5 @@ pub read-through-spec : {M : Type 1} → statement M
 read-through-spec =
     tie.close
     (tie.spec
-    (λ c κs. search needs) (λ c. search needs) (λ c. search needs) (λ c. search needs) returns
-    (λ c κs. search needs) (λ c. search needs) returns-2 (λ c. search needs) (λ c. search needs) returns-3)
+    (search needs) (search needs) (search needs) (search needs) returns (search needs) (search needs) returns-2
+    (search needs) (search needs) returns-3)

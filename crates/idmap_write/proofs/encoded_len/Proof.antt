@@ -21,9 +21,6 @@ returns c =
     let f = raws c in
     (sym (f .size), omega (arith, f .most))
 
-sub-start : tie.Need-sub-start
-sub-start c = omega (arith, deltas c .pos)
-
 add-start : tie.Need-add-start
 add-start c = let f = deltas c in omega (arith, f .most, f .small)
 
@@ -55,5 +52,5 @@ pub encoded-len-spec : {M : Type 1} → statement M
 encoded-len-spec =
     tie.close
     (tie.spec
-    (λ c. search needs) (λ c. search needs) returns (λ c κs. search needs) sub-start add-start div-start
+    (search needs) (search needs) returns (search needs) (λ c. omega (arith, deltas c .pos)) add-start div-start
     mul-start add-start-2 deltas-len-requires add-result-2 returns-2)

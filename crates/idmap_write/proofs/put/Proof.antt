@@ -36,9 +36,6 @@ returns c =
     (omega (arith, f .size, ph .before .before .before .before .before .pre .1)) (ph .put-head .ensures)
     (c .before .before .put-raw .ensures))
 
-sub-start : tie.Need-sub-start
-sub-start c = omega (arith, deltas c .pos)
-
 add-start : tie.Need-add-start
 add-start c = let f = deltas c in omega (arith, f .most, f .small)
 
@@ -75,5 +72,5 @@ pub put-spec : {M : Type 1} → statement M
 put-spec =
     tie.close
     (tie.spec
-    put-head-requires put-raw-requires (λ c. search needs) returns (λ c κs. search needs) sub-start add-start
-    div-start mul-start add-start-2 put-head-requires-2 put-deltas-requires (λ c. search needs) returns-2)
+    put-head-requires put-raw-requires (search needs) returns (search needs) (λ c. omega (arith, deltas c .pos))
+    add-start div-start mul-start add-start-2 put-head-requires-2 put-deltas-requires (search needs) returns-2)

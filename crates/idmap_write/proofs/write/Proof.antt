@@ -31,4 +31,4 @@ pub write-spec : {M : Type 1} → statement M
 write-spec =
     tie.close
     (tie.spec
-    (λ c κs. search needs) returns encoded-len-requires returns-2 put-requires (λ c. search needs) returns-3)
+    (search needs) returns encoded-len-requires returns-2 put-requires (search needs) returns-3)

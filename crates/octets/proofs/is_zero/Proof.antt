@@ -18,18 +18,6 @@ Inv-loop s acc₀ i₀ acc i = (i ≤ length s) × (eqb acc 0 && allZero (drop i
 abbrev μ-loop : tie.MeasureT-loop
 μ-loop s acc₀ i₀ acc i = length s - i
 
-loop-holds : tie.Need-loop-holds Inv-loop μ-loop
-loop-holds c = search needs
-
-shared-slice-read-acc : tie.Need-shared-slice-read-acc Inv-loop μ-loop
-shared-slice-read-acc c = search needs
-
-add-i : tie.Need-add-i Inv-loop μ-loop
-add-i c = search needs
-
-loop-less : tie.Need-loop-less Inv-loop μ-loop
-loop-less c = search needs
-
 loop-again : tie.Need-loop-again Inv-loop μ-loop
 loop-again c =
     let l = c .before .before .loop in
@@ -44,4 +32,5 @@ returns c =
 pub is-zero-spec : {M : Type 1} → statement M
 is-zero-spec =
     tie.close
-    (tie.spec Inv-loop μ-loop loop-holds shared-slice-read-acc add-i loop-less loop-again returns)
+    (tie.spec
+    Inv-loop μ-loop (search needs) (search needs) (search needs) (search needs) loop-again returns)

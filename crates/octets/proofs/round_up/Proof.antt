@@ -6,15 +6,9 @@ use borrow.Author.Needs.{needs}
 use Rattle.octets.proofs.round_up.Statement.{statement}
 use Rattle.octets.proofs.round_up.Tie as tie
 
-add-result : tie.Need-add-result
-add-result c = search needs
-
-mul-result : tie.Need-mul-result
-mul-result c = search needs
-
 returns : tie.Need-returns
 unfolding round64
 returns c = refl
 
 pub round-up-spec : {M : Type 1} → statement M
-round-up-spec = tie.close (tie.spec add-result mul-result returns)
+round-up-spec = tie.close (tie.spec (search needs) (search needs) returns)

@@ -24,8 +24,9 @@ returns c = sym (same-length _ _ (c .if1 .taken))
 
 loop-again : tie.Need-loop-again Inv-loop μ-loop
 loop-again c =
-    let l = c .before .before .before .loop in
-    let a = c .before .before .before .before .before .args in
+    let l′ = c .before .before .before in
+    let l = l′ .loop in
+    let a = l′ .before .before .args in
     (search needs, rw add-one (same-turn (a .a .now) (a .b .now) (l .acc) (l .i) (omega arith) (omega arith) ∙ l .inv .1))
 
 returns-2 : tie.Need-returns-2 Inv-loop μ-loop
@@ -38,5 +39,5 @@ pub same-spec : {M : Type 1} → statement M
 same-spec =
     tie.close
     (tie.spec
-    Inv-loop μ-loop returns (λ c. search needs) (λ c. search needs) (λ c. search needs) (λ c. search needs)
-    (λ c. search needs) loop-again returns-2)
+    Inv-loop μ-loop returns (search needs) (search needs) (search needs) (search needs) (search needs)
+    loop-again returns-2)

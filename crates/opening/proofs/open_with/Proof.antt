@@ -10,20 +10,10 @@ use Rattle.opening.proofs.open_with.Tie as tie
 returns : tie.Need-returns
 returns c = (open-long _ (c .if1 .taken), λ h. absurd (omega arith))
 
-collect-requires : tie.Need-collect-requires
-collect-requires c κs = search needs
-
-search-requires : tie.Need-search-requires
-search-requires c κs = search needs
-
-same-length : tie.Need-same-length
-same-length c = search needs
-
 returns-2 : tie.Need-returns-2
 returns-2 c =
     let c′ = c .before .before .before .before in
     (open-within _ _ (c′ .before .before .if1 .left) (c .search .ensures), λ h. indexed _ _ _ (c′ .collect .ensures .0) (c′ .collect .ensures .1))
 
 pub open-with-spec : {M : Type 1} → statement M
-open-with-spec =
-    tie.close (tie.spec returns collect-requires search-requires same-length returns-2)
+open-with-spec = tie.close (tie.spec returns (search needs) (λ c κs. search needs) (search needs) returns-2)

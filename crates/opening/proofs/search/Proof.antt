@@ -137,7 +137,7 @@ pub search-spec : {M : Type 1} → statement M
 search-spec =
     tie.close
     (tie.spec
-    Inv-loop μ-loop (λ c. search needs) loop-holds (λ c. search needs) sub-p (λ c. search needs) loop-again
-    (λ c. search needs) mul-if2 shared-slice-read-if2 (λ c. search needs) loop-again-2 candidate-requires
-    add-u64-at u64-at-requires add-t18 round-up-requires add-t20 add-u64-at-2 u64-at-requires-2 returns
-    (λ c. search needs) loop-again-3 returns-2)
+    Inv-loop μ-loop (search needs) loop-holds (search needs) sub-p (search needs) loop-again (search needs)
+    mul-if2 shared-slice-read-if2 (search needs) loop-again-2 candidate-requires add-u64-at u64-at-requires
+    add-t18 round-up-requires add-t20 add-u64-at-2 u64-at-requires-2 returns (search needs) loop-again-3
+    returns-2)

@@ -10,23 +10,12 @@ use Rattle.varint.proofs.read.Tie as tie
 returns : tie.Need-returns
 returns c = read-none (c .before .before .args .s .now) 0 (omega arith)
 
-shared-slice-read-wide : tie.Need-shared-slice-read-wide
-shared-slice-read-wide c = search needs
-
-wide-requires : tie.Need-wide-requires
-wide-requires c κs = search needs
-
 returns-2 : tie.Need-returns-2
 returns-2 c = read-one (c .before .before .before .before .before .args .s .now) 0 _ (omega arith) (omega arith) (omega arith)
-
-read-rest-requires : tie.Need-read-rest-requires
-read-rest-requires c κs = search needs
 
 returns-3 : tie.Need-returns-3
 returns-3 c = c .read-rest .ensures ∙ read-on (c .before .before .before .before .before .before .args .s .now) 0 _
     (omega arith) (omega arith) (omega arith)
 
 pub read-spec : {M : Type 1} → statement M
-read-spec =
-    tie.close
-    (tie.spec returns shared-slice-read-wide wide-requires returns-2 read-rest-requires returns-3)
+read-spec = tie.close (tie.spec returns (search needs) (search needs) returns-2 (search needs) returns-3)

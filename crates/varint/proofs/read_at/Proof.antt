@@ -10,23 +10,12 @@ use Rattle.varint.proofs.read_at.Tie as tie
 returns : tie.Need-returns
 returns c = let a = c .before .before .args in read-none (a .s .now) (a .at) (omega arith)
 
-shared-slice-read-wide : tie.Need-shared-slice-read-wide
-shared-slice-read-wide c = search needs
-
-wide-requires : tie.Need-wide-requires
-wide-requires c κs = search needs
-
 returns-2 : tie.Need-returns-2
 returns-2 c = let a = c .before .before .before .before .before .args in read-one (a .s .now) (a .at) _ (omega arith) (omega arith) (omega arith)
-
-read-rest-requires : tie.Need-read-rest-requires
-read-rest-requires c κs = search needs
 
 returns-3 : tie.Need-returns-3
 returns-3 c = let a = c .before .before .before .before .before .before .args in c .read-rest .ensures
     ∙ read-on (a .s .now) (a .at) _ (omega arith) (omega arith) (omega arith)
 
 pub read-at-spec : {M : Type 1} → statement M
-read-at-spec =
-    tie.close
-    (tie.spec returns shared-slice-read-wide wide-requires returns-2 read-rest-requires returns-3)
+read-at-spec = tie.close (tie.spec returns (search needs) (search needs) returns-2 (search needs) returns-3)

@@ -126,7 +126,6 @@ pub read-rest-spec : {M : Type 1} → statement M
 read-rest-spec =
     tie.close
     (tie.spec
-    Inv-loop μ-loop loop-holds (λ c. search needs) returns (λ c. search needs) (λ c. search needs)
-    (λ c κs. search needs) returns-2 mul-t14 add-t15 (λ c. search needs) returns-3 mul-acc add-acc mul-p
-    (λ c. search needs) (λ c. search needs) loop-again (λ c. search needs) returns-4 (λ c. search needs)
-    (λ c. search needs) (λ c κs. search needs) add-t24 returns-5 returns-6)
+    Inv-loop μ-loop loop-holds (search needs) returns (search needs) (search needs) (search needs) returns-2
+    mul-t14 add-t15 (search needs) returns-3 mul-acc add-acc mul-p (search needs) (search needs) loop-again
+    (search needs) returns-4 (search needs) (search needs) (search needs) add-t24 returns-5 returns-6)

@@ -56,6 +56,5 @@ pub read-spec : {M : Type 1} → statement M
 read-spec =
     tie.close
     (tie.spec
-    (λ c κs. search needs) returns find-requires (λ c. search needs) (λ c. search needs) (λ c. search needs)
-    read-vector-requires (λ c. search needs) (λ c. search needs) returns-2 returns-3 (λ c. search needs)
-    returns-4 (λ c. search needs) returns-5)
+    (search needs) returns find-requires (search needs) (search needs) (search needs) read-vector-requires
+    (search needs) (search needs) returns-2 returns-3 (search needs) returns-4 (search needs) returns-5)

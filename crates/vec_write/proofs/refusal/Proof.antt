@@ -62,5 +62,5 @@ pub refusal-spec : {M : Type 1} → statement M
 refusal-spec =
     tie.close
     (tie.spec
-    (λ c κs. search needs) returns returns-2 returns-3 returns-4 returns-5 mul-if6 mul-if6-2 returns-6
-    (λ c κs. search needs) returns-7)
+    (search needs) returns returns-2 returns-3 returns-4 returns-5 mul-if6 mul-if6-2 returns-6 (search needs)
+    returns-7)

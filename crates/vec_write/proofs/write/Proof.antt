@@ -30,9 +30,6 @@ size c = payload-size _ _ _ _ _ _ _ _ _ (c .before .encoded-len .ensures .0) (c 
 returns : tie.Need-returns
 returns c = write-bad _ _ _ _ (sym (c .before .refusal .ensures)) (omega arith)
 
-encoded-len-requires : tie.Need-encoded-len-requires
-encoded-len-requires c κs = good c .map
-
 add-n : tie.Need-add-n
 add-n c = omega (arith, round64-lt (length (start (c .before .before) .args .columns .now) + c .before .encoded-len .result + 4))
 
@@ -66,6 +63,6 @@ pub write-spec : {M : Type 1} → statement M
 write-spec =
     tie.close
     (tie.spec
-    (λ c κs. search needs) returns encoded-len-requires (λ c. search needs) (λ c. search needs)
-    (λ c κs. search needs) add-n returns-2 put-directory-requires (λ c. search needs) (λ c. search needs)
-    (λ c. search needs) put-block-requires (λ c. search needs) returns-3)
+    (search needs) returns (λ c κs. good c .map) (search needs) (search needs) (search needs) add-n returns-2
+    put-directory-requires (search needs) (search needs) (search needs) put-block-requires (search needs)
+    returns-3)

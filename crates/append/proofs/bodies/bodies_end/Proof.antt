@@ -44,18 +44,6 @@ module _ (b : tie.In-loop Inv-loop μ-loop) where
   line : BodyAt (s .args .batch .now) (b .before .loop .j)
   line = body-at (s .args .batch .now) (s .pre .0) (b .before .loop .j) (omega (arith, more, bodies-count (s .args .batch .now)))
 
-mul-u32-at : tie.Need-mul-u32-at Inv-loop μ-loop
-mul-u32-at c = omega (arith, line c .line-room)
-
-add-u32-at : tie.Need-add-u32-at Inv-loop μ-loop
-add-u32-at c = omega (arith, line c .line-room)
-
-add-u32-at-2 : tie.Need-add-u32-at-2 Inv-loop μ-loop
-add-u32-at-2 c = omega (arith, line c .line-room)
-
-u32-at-requires-2 : tie.Need-u32-at-requires-2 Inv-loop μ-loop
-u32-at-requires-2 c κs = omega (arith, line c .line-room)
-
 add-at : tie.Need-add-at Inv-loop μ-loop
 add-at c =
     let b = c .before .before in
@@ -89,6 +77,7 @@ pub bodies-end-spec : {M : Type 1} → statement M
 bodies-end-spec =
     tie.close
     (tie.spec
-    Inv-loop μ-loop u32-at-requires (λ c. search needs) loop-holds mul-u32-at add-u32-at add-u32-at-2
-    u32-at-requires-2 (λ c. search needs) (λ c κs. search needs) add-at add-at-2 add-j (λ c. search needs)
-    loop-again returns)
+    Inv-loop μ-loop u32-at-requires (search needs) loop-holds (λ c. omega (arith, line c .line-room))
+    (λ c. omega (arith, line c .line-room)) (λ c. omega (arith, line c .line-room))
+    (λ c κs. omega (arith, line c .line-room)) (search needs) (search needs) add-at add-at-2 add-j
+    (search needs) loop-again returns)

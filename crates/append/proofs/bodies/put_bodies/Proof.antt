@@ -58,12 +58,6 @@ u32-at-requires c κs =
 loop-holds : tie.Need-loop-holds Inv-loop μ-loop
 loop-holds c = put-first _ _ _ _ _ _ _
 
-mul-line : tie.Need-mul-line Inv-loop μ-loop
-mul-line c = omega (arith, line-room c)
-
-add-line : tie.Need-add-line Inv-loop μ-loop
-add-line c = omega (arith, line-room c)
-
 shared-slice-read-kind : tie.Need-shared-slice-read-kind Inv-loop μ-loop
 shared-slice-read-kind c = omega (arith, line-room (c .before))
 
@@ -84,9 +78,6 @@ add-u32-at-2 c = omega (arith, line-room (c .before .before .before))
 
 u32-at-requires-3 : tie.Need-u32-at-requires-3 Inv-loop μ-loop
 u32-at-requires-3 c κs = omega (arith, line-room (c .before .before .before))
-
-add-to : tie.Need-add-to Inv-loop μ-loop
-add-to c = omega (arith, inside c)
 
 add-offsets : tie.Need-add-offsets Inv-loop μ-loop
 add-offsets c =
@@ -193,9 +184,10 @@ pub put-bodies-spec : {M : Type 1} → statement M
 put-bodies-spec =
     tie.close
     (tie.spec
-    Inv-loop μ-loop u32-at-requires (λ c. search needs) loop-holds mul-line add-line shared-slice-read-kind
-    add-u16-at u16-at-requires add-u32-at u32-at-requires-2 (λ c. search needs) add-u32-at-2 u32-at-requires-3
-    (λ c. search needs) add-to add-offsets mul-offsets slice-write-offsets sub-put-segment
+    Inv-loop μ-loop u32-at-requires (search needs) loop-holds (λ c. omega (arith, line-room c))
+    (λ c. omega (arith, line-room c)) shared-slice-read-kind add-u16-at u16-at-requires add-u32-at
+    u32-at-requires-2 (search needs) add-u32-at-2 u32-at-requires-3 (search needs)
+    (λ c. omega (arith, inside c)) add-offsets mul-offsets slice-write-offsets sub-put-segment
     part-put-segment-start part-put-segment-end add-put-segment sub-put-segment-2 part-put-segment-start-2
-    part-put-segment-end-2 put-segment-requires add-at (λ c. search needs) (λ c. search needs) loop-again
-    (λ c. search needs) (λ c. search needs) returns)
+    part-put-segment-end-2 put-segment-requires add-at (search needs) (search needs) loop-again (search needs)
+    (search needs) returns)

@@ -60,46 +60,47 @@ bodies-small b =
     omega (arith, b .bodies-end .ensures, bodies-most (s .args .batch .now) (s .args .start) (s .pre .0 .0) (s .pre .1 .small))
 
 -- Where the file's new end is known.
-end-new : (r : tie.After-round-up2) → r .before .before .bodies-end .result + 64 + r .round-up2 .result
-    ≡ newEnd (opened (take (s (u (r .before .before .before .before)) .args .start) (s (u (r .before .before .before .before)) .args .buf .now)))
-    (bodiesOf (s (u (r .before .before .before .before)) .args .batch .now))
-end-new r =
-    let b = r .before .before in
-    let u = u (b .before .before) in
-    end-number _ _ _ _ (m u) (next u) (s u .pre .1 .start-is) (s u .pre .1 .count-is)
-    (bodies-count (s u .args .batch .now) ∙ sym (count-is (s u .args .batch .now) (m u) (u .u32-at .ensures))) (s u .pre .1 .next-is)
-    _ _ _ (b .bodies-end .ensures) (r .before .round-up .ensures) (r .round-up2 .ensures)
+module _ (r : tie.After-round-up2) where
+  abbrev b : tie.After-bodies-end
+  b = r .before .before
+
+  abbrev v : tie.After-u32-at
+  v = u (b .before .before)
+
+  end-new : b .bodies-end .result + 64 + r .round-up2 .result
+      ≡ newEnd (opened (take (s v .args .start) (s v .args .buf .now))) (bodiesOf (s v .args .batch .now))
+  end-new =
+      end-number _ _ _ _ (m v) (next v) (s v .pre .1 .start-is) (s v .pre .1 .count-is)
+      (bodies-count (s v .args .batch .now) ∙ sym (count-is (s v .args .batch .now) (m v) (v .u32-at .ensures))) (s v .pre .1 .next-is)
+      _ _ _ (b .bodies-end .ensures) (r .before .round-up .ensures) (r .round-up2 .ensures)
 
 -- Where the bodies are laid: the lists that the manifest is made of.
 module _ (p : tie.After-put-bodies) where
   abbrev r : tie.After-round-up2
   r = p .before .before .before .before .before
 
-  abbrev b : tie.After-bodies-end
-  b = r .before .before
-
   abbrev n : tie.After-next-id
-  n = b .before
+  n = b r .before
 
-  abbrev v : tie.After-u32-at
-  v = u (n .before)
+  abbrev w : tie.After-u32-at
+  w = v r
 
   abbrev all : ℕ
-  all = s v .args .kept + m v
+  all = s w .args .kept + m w
 
   few : all ≤ 1024
   few = omega (arith, n .before .before .before .if1 .left)
 
   offsets-long : all ≤ length (p .put-bodies .last .1 .1 .1 .1 .1 .0)
-  offsets-long = omega (arith, few, p .put-bodies .kept .1 .1 .1 .1 .1 .0, s v .pre .0 .1 .0)
+  offsets-long = omega (arith, few, p .put-bodies .kept .1 .1 .1 .1 .1 .0, s w .pre .0 .1 .0)
 
   offsets-count : length (take all (p .put-bodies .last .1 .1 .1 .1 .1 .0)) ≡ all
   offsets-count = length-take-le all (p .put-bodies .last .1 .1 .1 .1 .1 .0) offsets-long
 
-  states-count : length (take all (s v .args .states .now)) ≡ all
-  states-count = length-take-le all (s v .args .states .now) (omega (arith, few, s v .pre .0 .1 .1))
+  states-count : length (take all (s w .args .states .now)) ≡ all
+  states-count = length-take-le all (s w .args .states .now) (omega (arith, few, s w .pre .0 .1 .1))
 
-  ids-fit : n .next-id .result + m v < 2 ^ 64
+  ids-fit : n .next-id .result + m w < 2 ^ 64
   ids-fit = omega (arith, n .next-id .ensures, id-fits (n .before))
 
 u32-at-requires : tie.Need-u32-at-requires
@@ -129,25 +130,10 @@ returns-2 c =
     let u = c .before .before .before in
     late-ids _ _ _ _ _ (omega (arith, count-new u)) (ap (ltb (2 ^ 64 - 1)) (sym (id-new u)) ∙ sym (c .before .ids-over .ensures) ∙ c .if2 .taken)
 
-next-id-requires : tie.Need-next-id-requires
-next-id-requires c κs = omega (arith, id-fits c)
-
 bodies-end-requires : tie.Need-bodies-end-requires
 bodies-end-requires c κs =
     let s = s (u (c .before)) in
     (s .pre .0 .0, s .pre .1 .small)
-
-add-end : tie.Need-add-end
-add-end c = omega (arith, bodies-small c)
-
-mul-round-up : tie.Need-mul-round-up
-mul-round-up c = omega (arith, bodies-small c)
-
-add-round-up : tie.Need-add-round-up
-add-round-up c = omega (arith, bodies-small c)
-
-round-up-requires : tie.Need-round-up-requires
-round-up-requires c κs = omega (arith, bodies-small c)
 
 add-round-up-2 : tie.Need-add-round-up-2
 add-round-up-2 c =
@@ -201,7 +187,7 @@ slice-aggregate-put-manifest-2 c = sym (states-count (c .before .before .before 
 put-manifest-requires : tie.Need-put-manifest-requires
 put-manifest-requires c κs =
     let p = c .before .before .before .before .before .before .before in
-    let s = s (v p) in
+    let s = s (w p) in
     let os-count = offsets-count p in
     let pr = payload-round (all p) _ _ (r p .before .round-up .ensures) (r p .round-up2 .ensures) in
     let pl : round64 (payloadLength (length (take (all p) (p .put-bodies .last .1 .1 .1 .1 .1 .0)))) ≡ round64 (payloadLength (all p)) =
@@ -211,8 +197,8 @@ put-manifest-requires c κs =
         (omega (arith, pl, pr, p .put-bodies .kept .0), omega arith),
         written-inside (s .args .buf .now) (s .args .offsets .now) (s .args .batch .now) (s .args .start)
             (s .args .kept) (s .args .first) (s .args .last)
-            (s .pre .1) (s .pre .0 .0) (s .args .timestamp) (s .fits .timestamp .fits) (n p .next-id .result) (m (v p)) (n p .next-id .ensures)
-            (count-is (s .args .batch .now) (m (v p)) (v p .u32-at .ensures)) (ids-fit p) (b p .bodies-end .result) (b p .bodies-end .ensures)
+            (s .pre .1) (s .pre .0 .0) (s .args .timestamp) (s .fits .timestamp .fits) (n p .next-id .result) (m (w p)) (n p .next-id .ensures)
+            (count-is (s .args .batch .now) (m (w p)) (w p .u32-at .ensures)) (ids-fit p) (b (r p) .bodies-end .result) (b (r p) .bodies-end .ensures)
             (omega arith) (omega arith) (omega (arith, few p, s .pre .0 .1 .0))
             (p .put-bodies .last .0) (p .put-bodies .last .1 .1 .1 .1 .1 .0) (p .put-bodies .ensures .0) (p .put-bodies .ensures .1),
       ),
@@ -222,13 +208,13 @@ returns-5 : tie.Need-returns-5
 returns-5 c =
     let sk3 = c .before .before .before .before .before .before .before .before in
     let p = sk3 .before .before in
-    let s = s (v p) in
+    let s = s (w p) in
     let e = end-new (r p) in
-    late-done _ _ _ _ _ (omega (arith, few p, count-new (v p))) (id-enough (n p .before)) (omega (arith, e)) (omega (arith, e)) _ _ _ _ e
-    (ap (λ (k : ℕ). k + m (v p)) (n p .next-id .ensures) ∙ id-new (v p)) (count-new (v p))
+    late-done _ _ _ _ _ (omega (arith, few p, count-new (w p))) (id-enough (n p .before)) (omega (arith, e)) (omega (arith, e)) _ _ _ _ e
+    (ap (λ (k : ℕ). k + m (w p)) (n p .next-id .ensures) ∙ id-new (w p)) (count-new (w p))
     (written-all (s .args .buf .now) (s .args .offsets .now) (s .args .batch .now) (s .args .start) (s .args .kept) (s .args .first) (s .args .last)
-    (s .pre .1) (s .pre .0 .0) (s .args .timestamp) (s .fits .timestamp .fits) (n p .next-id .result) (m (v p)) (n p .next-id .ensures)
-    (count-is (s .args .batch .now) (m (v p)) (v p .u32-at .ensures)) (ids-fit p) (b p .bodies-end .result) (b p .bodies-end .ensures)
+    (s .pre .1) (s .pre .0 .0) (s .args .timestamp) (s .fits .timestamp .fits) (n p .next-id .result) (m (w p)) (n p .next-id .ensures)
+    (count-is (s .args .batch .now) (m (w p)) (w p .u32-at .ensures)) (ids-fit p) (b (r p) .bodies-end .result) (b (r p) .bodies-end .ensures)
     (omega arith) (omega arith) (omega (arith, few p, s .pre .0 .1 .0))
     (p .put-bodies .last .0) (p .put-bodies .last .1 .1 .1 .1 .1 .0) (p .put-bodies .ensures .0) (p .put-bodies .ensures .1)
     _ _ _ refl (λ k. omega (arith, sk3 .slice-known3 .given k)) (c .before .before .put-manifest .ensures))
@@ -237,7 +223,9 @@ pub finish-spec : {M : Type 1} → statement M
 finish-spec =
     tie.close
     (tie.spec
-    u32-at-requires (λ c. search needs) add-count returns ids-over-requires returns-2 next-id-requires
-    bodies-end-requires add-end mul-round-up add-round-up round-up-requires add-round-up-2 round-up-requires-2
-    add-end-2 returns-3 returns-4 add-id put-bodies-requires (λ c. search needs) slice-aggregate-put-manifest
-    slice-aggregate-put-manifest-2 put-manifest-requires (λ c. search needs) (λ c. search needs) returns-5)
+    u32-at-requires (search needs) add-count returns ids-over-requires returns-2
+    (λ c κs. omega (arith, id-fits c)) bodies-end-requires (λ c. omega (arith, bodies-small c))
+    (λ c. omega (arith, bodies-small c)) (λ c. omega (arith, bodies-small c))
+    (λ c κs. omega (arith, bodies-small c)) add-round-up-2 round-up-requires-2 add-end-2 returns-3 returns-4
+    add-id put-bodies-requires (search needs) slice-aggregate-put-manifest slice-aggregate-put-manifest-2
+    put-manifest-requires (search needs) (search needs) returns-5)

@@ -9,11 +9,8 @@ use Rattle.append.proofs.commit.ids_over.Tie as tie
 returns : tie.Need-returns
 returns c = over-first _ _ _ (c .if1 .taken) (c .before .pre)
 
-sub-result : tie.Need-sub-result
-sub-result c = search needs
-
 returns-2 : tie.Need-returns-2
 returns-2 c = over-later _ _ _ (c .if1 .left) (omega arith)
 
 pub ids-over-spec : {M : Type 1} → statement M
-ids-over-spec = tie.close (tie.spec returns sub-result returns-2)
+ids-over-spec = tie.close (tie.spec returns (search needs) returns-2)

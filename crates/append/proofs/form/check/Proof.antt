@@ -66,9 +66,7 @@ pub check-spec : {M : Type 1} → statement M
 check-spec =
     tie.close
     (tie.spec
-    Inv-loop μ-loop returns returns-2 (λ c κs. search needs) (λ c. search needs) returns-3 (λ c. search needs)
-    (λ c. search needs) (λ c. search needs) (λ c κs. search needs) returns-4 (λ c. search needs)
-    (λ c. search needs) returns-5 loop-holds (λ c. search needs) (λ c. search needs) (λ c. search needs)
-    (λ c. search needs) (λ c. search needs) (λ c. search needs) (λ c κs. search needs) returns-6
-    (λ c. search needs) (λ c κs. search needs) (λ c. search needs) add-at-2 (λ c. search needs)
-    (λ c. search needs) loop-again returns-7)
+    Inv-loop μ-loop returns returns-2 (search needs) (search needs) returns-3 (search needs) (search needs)
+    (search needs) (search needs) returns-4 (search needs) (search needs) returns-5 loop-holds (search needs)
+    (search needs) (search needs) (search needs) (search needs) (search needs) (search needs) returns-6
+    (search needs) (search needs) (search needs) add-at-2 (search needs) (search needs) loop-again returns-7)

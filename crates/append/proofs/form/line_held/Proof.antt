@@ -42,6 +42,6 @@ pub line-held-spec : {M : Type 1} → statement M
 line-held-spec =
     tie.close
     (tie.spec
-    (λ c. search needs) (λ c κs. search needs) returns (λ c. search needs) returns-2 (λ c. search needs)
-    returns-3 (λ c κs. search needs) (λ c κs. search needs) returns-4 (λ c κs. search needs) (λ c. search needs)
-    returns-5 (λ c. search needs) (λ c. search needs) (λ c. search needs) (λ c κs. search needs) returns-6)
+    (search needs) (search needs) returns (search needs) returns-2 (search needs) returns-3 (search needs)
+    (search needs) returns-4 (search needs) (search needs) returns-5 (search needs) (search needs)
+    (search needs) (search needs) returns-6)

@@ -69,6 +69,6 @@ pub put-manifest-spec : {M : Type 1} → statement M
 put-manifest-spec =
     tie.close
     (tie.spec
-    (λ c. search needs) (λ c. search needs) slice-aggregate-put-payload-2 put-payload-requires
-    (λ c. search needs) (λ c. search needs) (λ c. search needs) array-share-prefix-payload
-    slice-aggregate-put-segment put-segment-requires (λ c. search needs) returns)
+    (search needs) (search needs) slice-aggregate-put-payload-2 put-payload-requires (search needs)
+    (search needs) (search needs) array-share-prefix-payload slice-aggregate-put-segment put-segment-requires
+    (search needs) returns)

@@ -1,6 +1,6 @@
 -- `retire::mark` meets its contract, by where its loop stands. Where it answers false, what it says of the states is said of nothing.
 -- Assumes nothing.
-use Prim.Native.Nat.{_-_}
+use Prim.Native.Nat.{_-_, _<_}
 use mathlib.Core.Path.{sym, _∙_}
 use mathlib.Core.Bool.{false≢true}
 use native.Mathlib.Omega.{arith}
@@ -32,12 +32,22 @@ returns c = (
       absurd (false≢true q),
 )
 
+-- Where the id is found: its place is one of the entries, and one of the states.
+module _ (p : tie.After-place Inv-loop μ-loop) where
+  abbrev l : tie.At-loop Inv-loop μ-loop
+  l = p .before .before .before .before .before
+
+  abbrev s : tie.Start Inv-loop μ-loop
+  s = l .before .before .before .before .before
+
+  within : (p .place .given .0 .0 < length (s .args .kinds .now)) × (p .place .given .0 .0 < length (l .loop .states))
+  within =
+      let e = rw take-length at (was-place _ _ (sym (p .before .before .index-of .ensures) ∙ p .place .given .1)) in
+      let i = index-within _ _ _ e in
+      (omega (arith, i, s .pre .0), omega (arith, i, s .pre .0, l .loop .inv .long))
+
 shared-slice-read-if1 : tie.Need-shared-slice-read-if1 Inv-loop μ-loop
-shared-slice-read-if1 c =
-    let io = c .before .before .before .before in
-    let l = io .before .before .before in
-    let e = rw take-length at (was-place _ _ (sym (io .index-of .ensures) ∙ c .before .before .place .given .1)) in
-    omega (arith, index-within _ _ _ e, l .before .before .before .before .before .pre .0, l .loop .inv .long)
+shared-slice-read-if1 c = omega (arith, within (c .before .before))
 
 same-length-2 : tie.Need-same-length-2 Inv-loop μ-loop
 same-length-2 c = c .before .before .before .before .before .before .before .before .loop .inv .long
@@ -45,19 +55,14 @@ same-length-2 c = c .before .before .before .before .before .before .before .bef
 returns-2 : tie.Need-returns-2 Inv-loop μ-loop
 returns-2 c =
     let p = c .before .before .before in
-    let l = p .before .before .before .before .before in
     let e = rw take-length at (was-place _ _ (sym (p .before .before .index-of .ensures) ∙ p .place .given .1)) in (
-      mark-manifest _ _ _ _ _ _ (l .loop .inv) (omega arith) (l .before .before .before .before .before .pre .1) _ e
+      mark-manifest _ _ _ _ _ _ (l p .loop .inv) (omega arith) (s p .pre .1) _ e
           (c .if1 .taken),
       λ q. absurd (false≢true q),
     )
 
 slice-read-if2 : tie.Need-slice-read-if2 Inv-loop μ-loop
-slice-read-if2 c =
-    let p = c .before .before .before .before in
-    let l = p .before .before .before .before .before in
-    let e = rw take-length at (was-place _ _ (sym (p .before .before .index-of .ensures) ∙ p .place .given .1)) in
-    omega (arith, index-within _ _ _ e, l .before .before .before .before .before .pre .0, l .loop .inv .long)
+slice-read-if2 c = omega (arith, within (c .before .before .before .before))
 
 same-length-3 : tie.Need-same-length-3 Inv-loop μ-loop
 same-length-3 c = c .before .before .before .before .before .before .before .before .before .before .loop .inv .long
@@ -65,26 +70,20 @@ same-length-3 c = c .before .before .before .before .before .before .before .bef
 returns-3 : tie.Need-returns-3 Inv-loop μ-loop
 returns-3 c =
     let p = c .before .before .before .before .before in
-    let l = p .before .before .before .before .before in
     let e = rw take-length at (was-place _ _ (sym (p .before .before .index-of .ensures) ∙ p .place .given .1)) in (
-      mark-retired _ _ _ _ _ _ (l .loop .inv) (omega arith) (l .before .before .before .before .before .pre .1) _ e
+      mark-retired _ _ _ _ _ _ (l p .loop .inv) (omega arith) (s p .pre .1) _ e
           (c .if2 .taken),
       λ q. absurd (false≢true q),
     )
 
 slice-write-states : tie.Need-slice-write-states Inv-loop μ-loop
-slice-write-states c =
-    let p = c .before .before .before .before .before in
-    let l = p .before .before .before .before .before in
-    let e = rw take-length at (was-place _ _ (sym (p .before .before .index-of .ensures) ∙ p .place .given .1)) in
-    omega (arith, index-within _ _ _ e, l .before .before .before .before .before .pre .0, l .loop .inv .long)
+slice-write-states c = omega (arith, within (c .before .before .before .before .before))
 
 loop-again : tie.Need-loop-again Inv-loop μ-loop
 loop-again c =
     let p = c .before .before .before .before .before in
-    let l = p .before .before .before .before .before in
     let e = rw take-length at (was-place _ _ (sym (p .before .before .index-of .ensures) ∙ p .place .given .1)) in
-    mark-next _ _ _ _ _ _ (l .loop .inv) (omega arith) (l .before .before .before .before .before .pre .1) _ e
+    mark-next _ _ _ _ _ _ (l p .loop .inv) (omega arith) (s p .pre .1) _ e
     (c .before .before .if1 .left) (c .if2 .left)
 
 same-length-4 : tie.Need-same-length-4 Inv-loop μ-loop
@@ -97,7 +96,6 @@ pub mark-spec : {M : Type 1} → statement M
 mark-spec =
     tie.close
     (tie.spec
-    Inv-loop μ-loop loop-holds (λ c. search needs) (λ c. search needs) (λ c κs. search needs)
-    (λ c. search needs) same-length returns (λ c. search needs) shared-slice-read-if1 same-length-2 returns-2
-    slice-read-if2 same-length-3 returns-3 slice-write-states (λ c. search needs) (λ c. search needs) loop-again
-    same-length-4 returns-4)
+    Inv-loop μ-loop loop-holds (search needs) (search needs) (search needs) (search needs) same-length returns
+    (search needs) shared-slice-read-if1 same-length-2 returns-2 slice-read-if2 same-length-3 returns-3
+    slice-write-states (search needs) (search needs) loop-again same-length-4 returns-4)

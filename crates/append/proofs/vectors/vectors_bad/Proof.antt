@@ -57,5 +57,5 @@ pub vectors-bad-spec : {M : Type 1} → statement M
 vectors-bad-spec =
     tie.close
     (tie.spec
-    Inv-loop μ-loop u32-at-requires (λ c. search needs) loop-holds body-bad-requires returns (λ c. search needs)
-    (λ c. search needs) loop-again returns-2)
+    Inv-loop μ-loop u32-at-requires (search needs) loop-holds body-bad-requires returns (search needs)
+    (search needs) loop-again returns-2)

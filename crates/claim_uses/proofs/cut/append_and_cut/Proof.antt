@@ -45,9 +45,6 @@ module _ (a : tie.After-a2) where
             _ _ (omega (arith, e1 .if1 .left)) _ (a .a2 .given .1) (app .append .ensures),
       )
 
-sub-if2 : tie.Need-sub-if2
-sub-if2 c = omega (arith, ends (c .before))
-
 returns-2 : tie.Need-returns-2
 returns-2 c =
     let a = c .before .before in
@@ -97,7 +94,6 @@ pub append-and-cut-spec : {M : Type 1} → statement M
 append-and-cut-spec =
     tie.close
     (tie.spec
-    returns (λ c. search needs) slice-aggregate-start-of (λ c κs. search needs) (λ c κs. search needs)
-    (λ c. search needs) (λ c. search needs) sub-if2 (λ c. search needs) returns-2 add-cut
-    slice-reshare-prefix-vector slice-aggregate-vector (λ c κs. search needs) (λ c. search needs) returns-3
-    (λ c. search needs) (λ c. search needs) returns-4)
+    returns (search needs) slice-aggregate-start-of (search needs) (search needs) (search needs) (search needs)
+    (λ c. omega (arith, ends (c .before))) (search needs) returns-2 add-cut slice-reshare-prefix-vector
+    slice-aggregate-vector (search needs) (search needs) returns-3 (search needs) (search needs) returns-4)

@@ -6,18 +6,6 @@ use borrow.Author.Needs.{needs}
 use Rattle.claim_uses.proofs.cut.start_of.Statement.{statement}
 use Rattle.claim_uses.proofs.cut.start_of.Tie as tie
 
-open-requires : tie.Need-open-requires
-open-requires c κs = search needs
-
-enum-told : tie.Need-enum-told
-enum-told c = search needs
-
-enum-told-2 : tie.Need-enum-told-2
-enum-told-2 c = search needs
-
-enum-known-o : tie.Need-enum-known-o
-enum-known-o c = search needs
-
 returns : tie.Need-returns
 returns c = λ h. start-refused _ _ (sym (c .before .before .«open» .ensures) ∙ c .enum-told .given .1) h
 
@@ -30,4 +18,5 @@ returns-3 c = λ h. start-at _ _ _ _ _ _ (sym (c .before .before .before .«open
 pub start-of-spec : {M : Type 1} → statement M
 start-of-spec =
     tie.close
-    (tie.spec open-requires enum-told enum-told-2 enum-known-o returns returns-2 returns-3)
+    (tie.spec
+    (search needs) (search needs) (search needs) (search needs) returns returns-2 returns-3)

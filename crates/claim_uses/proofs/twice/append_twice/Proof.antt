@@ -80,8 +80,7 @@ pub append-twice-spec : {M : Type 1} → statement M
 append-twice-spec =
     tie.close
     (tie.spec
-    (λ c. search needs) (λ c κs. search needs) (λ c. search needs) (λ c. search needs) (λ c κs. search needs)
-    (λ c. search needs) (λ c. search needs) slice-reshare-prefix-open slice-aggregate-open
-    (λ c κs. search needs) (λ c. search needs) (λ c. search needs) (λ c. search needs) (λ c. search needs)
-    returns (λ c. search needs) returns-2 (λ c. search needs) returns-3 (λ c. search needs) returns-4
-    (λ c. search needs) returns-5)
+    (search needs) (search needs) (search needs) (search needs) (search needs) (search needs) (search needs)
+    slice-reshare-prefix-open slice-aggregate-open (search needs) (search needs) (search needs) (search needs)
+    (search needs) returns (search needs) returns-2 (search needs) returns-3 (search needs) returns-4
+    (search needs) returns-5)

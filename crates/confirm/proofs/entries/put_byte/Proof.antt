@@ -5,14 +5,8 @@ use borrow.Author.Needs.{needs}
 use Rattle.confirm.proofs.entries.put_byte.Statement.{statement}
 use Rattle.confirm.proofs.entries.put_byte.Tie as tie
 
-slice-write-buf : tie.Need-slice-write-buf
-slice-write-buf c = search needs
-
-same-length : tie.Need-same-length
-same-length c = search needs
-
 returns : tie.Need-returns
 returns c = stored _ _ _ (c .pre)
 
 pub put-byte-spec : {M : Type 1} → statement M
-put-byte-spec = tie.close (tie.spec slice-write-buf same-length returns)
+put-byte-spec = tie.close (tie.spec (search needs) (search needs) returns)

@@ -39,6 +39,5 @@ pub put-entries-spec : {M : Type 1} → statement M
 put-entries-spec =
     tie.close
     (tie.spec
-    Inv-loop μ-loop loop-holds (λ c. search needs) (λ c. search needs) (λ c. search needs) (λ c. search needs)
-    (λ c. search needs) put-entry-requires (λ c. search needs) (λ c. search needs) loop-again same-length
-    returns)
+    Inv-loop μ-loop loop-holds (search needs) (search needs) (search needs) (search needs) (search needs)
+    put-entry-requires (search needs) (search needs) loop-again same-length returns)

@@ -5,21 +5,6 @@ use borrow.Author.Needs.{needs}
 use Rattle.confirm.proofs.payload.clear_part.Statement.{statement}
 use Rattle.confirm.proofs.payload.clear_part.Tie as tie
 
-sub-clear : tie.Need-sub-clear
-sub-clear c = search needs
-
-part-clear-start : tie.Need-part-clear-start
-part-clear-start c = search needs
-
-part-clear-end : tie.Need-part-clear-end
-part-clear-end c = search needs
-
-clear-requires : tie.Need-clear-requires
-clear-requires c κs = search needs
-
-same-length : tie.Need-same-length
-same-length c = search needs
-
 returns : tie.Need-returns
 returns c =
     let s = c .before .before .before .before .before in
@@ -28,4 +13,5 @@ returns c =
 pub clear-part-spec : {M : Type 1} → statement M
 clear-part-spec =
     tie.close
-    (tie.spec sub-clear part-clear-start part-clear-end clear-requires same-length returns)
+    (tie.spec
+    (search needs) (search needs) (search needs) (search needs) (search needs) returns)

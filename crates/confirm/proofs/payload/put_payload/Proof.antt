@@ -122,7 +122,8 @@ returns c =
       ap (λ (n : ℕ). n + 4096) (ru .round-up .ensures),
       payload-laid buf file offsets states offset id (s .pre .1 .0) (s .pre .0 .0) _ _ _ (ru .round-up .ensures)
           (filled buf file offsets states offset id (s .pre .1 .0) (s .pre .0 .0) _ _ _ _ (ru .round-up .ensures)
-          (head-laid buf file offsets states offset id (s .pre .1 .0) (s .pre .0 .0) _ _ _ (p1 p3 .put .ensures) (p2 p3 .put2 .ensures) (p3 .put3 .ensures))
+          (head-laid buf file offsets states offset id (s .pre .1 .0) (s .pre .0 .0) _ _ _ (p1 p3 .put .ensures)
+          (p2 p3 .put2 .ensures) (p3 .put3 .ensures))
           (pe .put-entries .ensures) (cp .clear-part .ensures))
           (c .before .before .put-root .ensures),
     )
@@ -132,5 +133,5 @@ put-payload-spec =
     tie.close
     (tie.spec
     mul-long add-end round-up-requires put-requires put-requires-2 put-requires-3 put-entries-requires
-    clear-part-requires sub-put-root part-put-root-start (λ c. search needs) put-root-requires add-result
-    (λ c. search needs) returns)
+    clear-part-requires sub-put-root part-put-root-start (search needs) put-root-requires add-result
+    (search needs) returns)

@@ -111,8 +111,7 @@ pub put-root-spec : {M : Type 1} → statement M
 put-root-spec =
     tie.close
     (tie.spec
-    mul-long add-long round-up-requires add-round-up round-up-requires-2 (λ c. search needs) add-end-2
-    (λ c. search needs) (λ c κs. search needs) (λ c κs. search needs) (λ c κs. search needs)
-    (λ c κs. search needs) (λ c κs. search needs) (λ c κs. search needs) (λ c κs. search needs)
-    clear-part-requires slice-reshare-prefix-checksum slice-aggregate-checksum (λ c κs. search needs)
-    (λ c. search needs) put-requires-7 same-length returns)
+    mul-long add-long round-up-requires add-round-up round-up-requires-2 (search needs) add-end-2 (search needs)
+    (search needs) (search needs) (search needs) (search needs) (search needs) (search needs) (search needs)
+    clear-part-requires slice-reshare-prefix-checksum slice-aggregate-checksum (search needs) (search needs)
+    put-requires-7 same-length returns)

@@ -34,5 +34,5 @@ pub read-states-spec : {M : Type 1} → statement M
 read-states-spec =
     tie.close
     (tie.spec
-    Inv-loop μ-loop loop-holds (λ c. search needs) (λ c. search needs) (λ c. search needs) (λ c. search needs)
-    slice-write-states (λ c. search needs) (λ c. search needs) loop-again same-length returns)
+    Inv-loop μ-loop loop-holds (search needs) (search needs) (search needs) (search needs) slice-write-states
+    (search needs) (search needs) loop-again same-length returns)

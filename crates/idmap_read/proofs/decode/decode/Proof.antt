@@ -40,6 +40,6 @@ pub decode-spec : {M : Type 1} → statement M
 decode-spec =
     tie.close
     (tie.spec
-    returns (λ c κs. search needs) (λ c. search needs) returns-2 (λ c κs. search needs) (λ c. search needs)
-    (λ c. search needs) returns-3 (λ c κs. search needs) (λ c. search needs) returns-4 (λ c. search needs)
-    returns-5 (λ c κs. search needs) (λ c. search needs) returns-6 returns-7)
+    returns (search needs) (search needs) returns-2 (search needs) (search needs) (search needs) returns-3
+    (search needs) (search needs) returns-4 (search needs) returns-5 (search needs) (search needs) returns-6
+    returns-7)

@@ -44,7 +44,6 @@ pub decode-raw-spec : {M : Type 1} → statement M
 decode-raw-spec =
     tie.close
     (tie.spec
-    Inv-loop μ-loop (λ c. search needs) (λ c. search needs) returns loop-holds (λ c. search needs)
-    (λ c. search needs) (λ c κs. search needs) (λ c κs. search needs) (λ c. search needs) returns-2
-    (λ c. search needs) (λ c. search needs) (λ c. search needs) (λ c. search needs) loop-again
-    (λ c. search needs) returns-3)
+    Inv-loop μ-loop (search needs) (search needs) returns loop-holds (search needs) (search needs)
+    (search needs) (search needs) (search needs) returns-2 (search needs) (search needs) (search needs)
+    (search needs) loop-again (search needs) returns-3)

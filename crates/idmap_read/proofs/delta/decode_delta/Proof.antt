@@ -86,19 +86,16 @@ group-after-requires : tie.Need-group-after-requires Inv-loop μ-loop
 group-after-requires c κs = let begun = c .before .before .before .before .before .before .before .before .before .loop .inv .0 .begun in omega arith
 
 loop-again : tie.Need-loop-again Inv-loop μ-loop
-loop-again c = (
-  rw (c .left-after .ensures, c .before .group-after .ensures)
-      (turn-next _ _ _ _ _ _ _ _ _ _
-      (c .before .before .before .before .before .before .before .before .before .before .before .loop .inv .0)
-      (omega arith) (c .before .before .before .before .before .before .before .v2 .given .0 .0)
-      (c .before .before .before .before .before .before .before .v2 .given .0 .1 .0)
-      (sym (c .before .before .before .before .before .before .before .before .before .read-at .ensures)
-      ∙ c .before .before .before .before .before .before .before .v2 .given .1)
-      (c .before .before .before .x2 .given .0 .0)
-      (sym (c .before .before .before .before .before .next-id .ensures) ∙ c .before .before .before .x2 .given .1)
-      (omega arith) (omega arith)),
-  search needs,
-)
+loop-again c =
+    let x = c .before .before .before .x2 in
+    let v = c .before .before .before .before .before .before .before .v2 in
+    let l = c .before .before .before .before .before .before .before .before .before .before .before .loop in (
+      rw (c .left-after .ensures, c .before .group-after .ensures)
+          (turn-next _ _ _ _ _ _ _ _ _ _ (l .inv .0) (omega arith) (v .given .0 .0) (v .given .0 .1 .0)
+          (sym (c .before .before .before .before .before .before .before .before .before .read-at .ensures) ∙ v .given .1) (x .given .0 .0)
+          (sym (c .before .before .before .before .before .next-id .ensures) ∙ x .given .1) (omega arith) (omega arith)),
+      search needs,
+    )
 
 returns-4 : tie.Need-returns-4 Inv-loop μ-loop
 unfolding groups
@@ -112,8 +109,8 @@ pub decode-delta-spec : {M : Type 1} → statement M
 decode-delta-spec =
     tie.close
     (tie.spec
-    Inv-loop μ-loop (λ c. search needs) (λ c. search needs) (λ c. search needs) mul-start add-start-2 returns
-    loop-holds (λ c κs. search needs) (λ c. search needs) (λ c. search needs) returns-2 (λ c. search needs)
-    sub-next-id mul-next-id add-next-id next-id-requires (λ c. search needs) (λ c. search needs) returns-3
-    (λ c. search needs) (λ c. search needs) (λ c. search needs) add-pos group-after-requires
-    (λ c κs. search needs) (λ c. search needs) (λ c. search needs) loop-again (λ c. search needs) returns-4)
+    Inv-loop μ-loop (search needs) (search needs) (search needs) mul-start add-start-2 returns loop-holds
+    (search needs) (search needs) (search needs) returns-2 (search needs) sub-next-id mul-next-id add-next-id
+    next-id-requires (search needs) (search needs) returns-3 (search needs) (search needs) (search needs)
+    add-pos group-after-requires (search needs) (search needs) (search needs) loop-again (search needs)
+    returns-4)

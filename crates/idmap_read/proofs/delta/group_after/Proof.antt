@@ -8,9 +8,6 @@ use borrow.Author.Needs.{needs}
 use Rattle.idmap_read.proofs.delta.group_after.Statement.{statement}
 use Rattle.idmap_read.proofs.delta.group_after.Tie as tie
 
-add-result : tie.Need-add-result
-add-result c = search needs
-
 returns : tie.Need-returns
 unfolding groupAfter
 returns c = rw (c .if1 .taken)
@@ -23,4 +20,4 @@ returns-2 c =
     rw e
 
 pub group-after-spec : {M : Type 1} → statement M
-group-after-spec = tie.close (tie.spec add-result returns returns-2)
+group-after-spec = tie.close (tie.spec (search needs) returns returns-2)

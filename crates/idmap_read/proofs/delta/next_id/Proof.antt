@@ -47,5 +47,5 @@ pub next-id-spec : {M : Type 1} → statement M
 next-id-spec =
     tie.close
     (tie.spec
-    u32-at-requires (λ c. search needs) returns (λ c κs. search needs) returns-2 returns-3 returns-4
-    (λ c. search needs) returns-5 (λ c. search needs) returns-6)
+    u32-at-requires (search needs) returns (search needs) returns-2 returns-3 returns-4 (search needs) returns-5
+    (search needs) returns-6)

@@ -42,5 +42,5 @@ pub deltas-len-spec : {M : Type 1} → statement M
 deltas-len-spec =
     tie.close
     (tie.spec
-    Inv-loop μ-loop loop-holds (λ c. search needs) (λ c. search needs) delta-requires (λ c κs. search needs)
-    add-total (λ c κs. search needs) (λ c. search needs) (λ c. search needs) loop-again returns)
+    Inv-loop μ-loop loop-holds (search needs) (search needs) delta-requires (search needs) add-total
+    (search needs) (search needs) (search needs) loop-again returns)

@@ -72,6 +72,5 @@ pub put-deltas-spec : {M : Type 1} → statement M
 put-deltas-spec =
     tie.close
     (tie.spec
-    Inv-loop μ-loop loop-holds (λ c. search needs) (λ c. search needs) delta-requires sub-put-restart
-    put-restart-requires put-requires (λ c κs. search needs) (λ c. search needs) (λ c. search needs) loop-again
-    same-length returns)
+    Inv-loop μ-loop loop-holds (search needs) (search needs) delta-requires sub-put-restart put-restart-requires
+    put-requires (search needs) (search needs) (search needs) loop-again same-length returns)

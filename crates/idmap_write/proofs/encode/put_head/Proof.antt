@@ -8,9 +8,6 @@ use borrow.Author.Needs.{needs}
 use Rattle.idmap_write.proofs.encode.put_head.Statement.{statement}
 use Rattle.idmap_write.proofs.encode.put_head.Tie as tie
 
-slice-write-buf : tie.Need-slice-write-buf
-slice-write-buf c = search needs
-
 put-requires : tie.Need-put-requires
 put-requires c κs = simp length-set (omega arith)
 
@@ -33,5 +30,4 @@ returns c =
     head-laid (s .args .buf .now) _ _ _ _ _ (s .pre) (p .put .ensures) (c .before .before .put2 .ensures)
 
 pub put-head-spec : {M : Type 1} → statement M
-put-head-spec =
-    tie.close (tie.spec slice-write-buf put-requires put-requires-2 same-length returns)
+put-head-spec = tie.close (tie.spec (search needs) put-requires put-requires-2 same-length returns)

@@ -36,5 +36,5 @@ pub put-raw-spec : {M : Type 1} → statement M
 put-raw-spec =
     tie.close
     (tie.spec
-    Inv-loop μ-loop loop-holds (λ c. search needs) (λ c. search needs) (λ c. search needs) (λ c. search needs)
-    put-requires (λ c. search needs) (λ c. search needs) loop-again same-length returns)
+    Inv-loop μ-loop loop-holds (search needs) (search needs) (search needs) (search needs) put-requires
+    (search needs) (search needs) loop-again same-length returns)

@@ -24,9 +24,6 @@ add-result c =
     let t1 = c .before .before .before .before in
     omega (arith, rw (t1 .if1 .taken, length-leBytes 4 (t1 .before .before .args .at)) at (t1 .before .before .pre))
 
-same-length : tie.Need-same-length
-same-length c = search needs
-
 returns : tie.Need-returns
 unfolding restartOf
 returns c =
@@ -41,4 +38,4 @@ returns-2 c =
     rw e (sym (add-zero (s .args .place)), sym (over-none (s .args .buf .now) (s .args .place)))
 
 pub put-restart-spec : {M : Type 1} → statement M
-put-restart-spec = tie.close (tie.spec put-requires add-result same-length returns returns-2)
+put-restart-spec = tie.close (tie.spec put-requires add-result (search needs) returns returns-2)

@@ -29,4 +29,4 @@ pub refusal-spec : {M : Type 1} → statement M
 refusal-spec =
     tie.close
     (tie.spec
-    returns returns-2 (λ c κs. search needs) returns-3 (λ c κs. search needs) returns-4 returns-5)
+    returns returns-2 (search needs) returns-3 (search needs) returns-4 returns-5)

@@ -16,9 +16,6 @@ Inv-loop ids i₀ prev₀ i prev = RiseAt ids i prev
 abbrev μ-loop : tie.MeasureT-loop
 μ-loop ids i₀ prev₀ i prev = length ids - i
 
-loop-holds : tie.Need-loop-holds Inv-loop μ-loop
-loop-holds c = rise-first _
-
 returns : tie.Need-returns Inv-loop μ-loop
 returns c = rise-stop _ _ _ (c .before .before .before .before .loop .inv) (omega arith)
     (sym (c .before .follows .ensures) ∙ not-true _ (c .if1 .taken))
@@ -34,5 +31,5 @@ pub rising-spec : {M : Type 1} → statement M
 rising-spec =
     tie.close
     (tie.spec
-    Inv-loop μ-loop loop-holds (λ c. search needs) (λ c. search needs) (λ c κs. search needs) returns
-    (λ c. search needs) (λ c. search needs) loop-again returns-2)
+    Inv-loop μ-loop (λ c. rise-first _) (search needs) (search needs) (search needs) returns (search needs)
+    (search needs) loop-again returns-2)

@@ -29,71 +29,49 @@ module _ (b : tie.In-loop Inv-loop μ-loop) where
 loop-holds : tie.Need-loop-holds Inv-loop μ-loop
 loop-holds c = entries-first _ _ _ _ (omega arith)
 
-mul-p : tie.Need-mul-p Inv-loop μ-loop
-mul-p c =
-    let a = entry c in
-    omega (arith, a .stored, a .few)
-
-shared-slice-read-p : tie.Need-shared-slice-read-p Inv-loop μ-loop
-shared-slice-read-p c =
-    let a = entry (c .before) in
-    omega (arith, a .stored, a .few)
-
 add-put-entry : tie.Need-add-put-entry Inv-loop μ-loop
 add-put-entry c =
-    let m = c .before .before .before .before .before .before .before .pre .1 .1 in
-    let a = entry (c .before .before) in
-    omega (arith, a .state-room, m .within, a .few)
+    let b = c .before .before in
+    omega (arith, entry b, s b .pre .1 .1 .within)
 
 mul-put-entry : tie.Need-mul-put-entry Inv-loop μ-loop
 mul-put-entry c =
-    let m = c .before .before .before .before .before .before .before .pre .1 .1 in
-    let a = entry (c .before .before) in
-    omega (arith, a .state-room, m .within, a .few)
+    let b = c .before .before in
+    omega (arith, entry b, s b .pre .1 .1 .within)
 
 add-put-entry-2 : tie.Need-add-put-entry-2 Inv-loop μ-loop
 add-put-entry-2 c =
-    let m = c .before .before .before .before .before .before .before .pre .1 .1 in
-    let a = entry (c .before .before) in
-    omega (arith, a .state-room, m .within, a .few)
+    let b = c .before .before in
+    omega (arith, entry b, s b .pre .1 .1 .within)
 
 add-put-entry-3 : tie.Need-add-put-entry-3 Inv-loop μ-loop
 add-put-entry-3 c =
-    let m = c .before .before .before .before .before .before .before .pre .1 .1 in
-    let a = entry (c .before .before) in
-    omega (arith, a .state-room, m .within, a .few)
+    let b = c .before .before in
+    omega (arith, entry b, s b .pre .1 .1 .within)
 
 shared-slice-read-put-entry : tie.Need-shared-slice-read-put-entry Inv-loop μ-loop
 shared-slice-read-put-entry c =
     let b = c .before .before .before in
-    let m = b .before .before .before .before .before .pre .1 .1 in
-    let a = entry (b) in
-    omega (arith, a .state-room, m .within, a .few)
+    omega (arith, entry b, s b .pre .1 .1 .within)
 
 put-entry-requires : tie.Need-put-entry-requires Inv-loop μ-loop
 put-entry-requires c κs =
     let b = c .before .before .before in
-    let a = entry (b) in
-    let s = same-room (b .before .loop .inv .writes) in (
+    let a = entry b in
+    let w = same-room (b .before .loop .inv .writes) in (
       omega (arith, a .numbered .room, a .numbered .length-is),
-      omega (arith, b .before .loop .inv .short, b .before .before .before .before .before .pre .0 .1),
+      omega (arith, b .before .loop .inv .short, s b .pre .0 .1),
     )
 
 add-i : tie.Need-add-i Inv-loop μ-loop
-add-i c =
-    let a = entry (c .before .before .before .before .before .before) in
-    omega (arith, a .few)
-
-loop-less : tie.Need-loop-less Inv-loop μ-loop
-loop-less c = omega arith
+add-i c = omega (arith, entry (c .before .before .before .before .before .before) .few)
 
 loop-again : tie.Need-loop-again Inv-loop μ-loop
 loop-again c =
     let pe = c .before .before in
     let b = pe .before .before .before .before in
-    let m = b .before .before .before .before .before .pre .1 .1 in
-    let a = entry (b) in
-    entries-next _ _ _ m _ _ (omega arith) a _ _ _ _ _ _ (b .before .loop .inv) (pe .put-entry .ensures .0) (pe .put-entry .ensures .1)
+    entries-next _ _ _ (s b .pre .1 .1) _ _ (omega arith) (entry b) _ _ _ _ _ _ (b .before .loop .inv)
+    (pe .put-entry .ensures .0) (pe .put-entry .ensures .1)
 
 same-length : tie.Need-same-length Inv-loop μ-loop
 same-length c = same-room (c .before .loop .inv .writes)
@@ -105,6 +83,6 @@ pub put-entries-spec : {M : Type 1} → statement M
 put-entries-spec =
     tie.close
     (tie.spec
-    Inv-loop μ-loop loop-holds mul-p shared-slice-read-p add-put-entry mul-put-entry add-put-entry-2
-    add-put-entry-3 shared-slice-read-put-entry put-entry-requires add-i loop-less loop-again same-length
-    returns)
+    Inv-loop μ-loop loop-holds (λ c. omega (arith, entry c)) (λ c. omega (arith, entry (c .before)))
+    add-put-entry mul-put-entry add-put-entry-2 add-put-entry-3 shared-slice-read-put-entry put-entry-requires
+    add-i (λ c. omega arith) loop-again same-length returns)

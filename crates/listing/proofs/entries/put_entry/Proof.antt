@@ -7,12 +7,6 @@ use Rattle.listing.specs.line.Lines.{state-live, state-retired}
 use Rattle.listing.proofs.entries.put_entry.Statement.{statement}
 use Rattle.listing.proofs.entries.put_entry.Tie as tie
 
-slice-aggregate-put-segment : tie.Need-slice-aggregate-put-segment
-slice-aggregate-put-segment c = refl
-
-put-segment-requires : tie.Need-put-segment-requires
-put-segment-requires c κs = omega arith
-
 same-length : tie.Need-same-length
 same-length c = c .before .before .put-segment .kept .0
 
@@ -21,12 +15,6 @@ unfolding ascii
 returns c =
     let ps = c .before .before in
     (state-live _ _ _ (ps .before .before .before .if1 .taken) (ps .put-segment .ensures .0), ps .put-segment .ensures .1)
-
-slice-aggregate-put-segment-2 : tie.Need-slice-aggregate-put-segment-2
-slice-aggregate-put-segment-2 c = refl
-
-put-segment-requires-2 : tie.Need-put-segment-requires-2
-put-segment-requires-2 c κs = omega arith
 
 same-length-2 : tie.Need-same-length-2
 same-length-2 c = c .before .before .put-segment2 .kept .0
@@ -41,5 +29,5 @@ pub put-entry-spec : {M : Type 1} → statement M
 put-entry-spec =
     tie.close
     (tie.spec
-    slice-aggregate-put-segment put-segment-requires same-length returns slice-aggregate-put-segment-2
-    put-segment-requires-2 same-length-2 returns-2)
+    (λ c. refl) (λ c κs. omega arith) same-length returns (λ c. refl) (λ c κs. omega arith) same-length-2
+    returns-2)

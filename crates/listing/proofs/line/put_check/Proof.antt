@@ -7,12 +7,6 @@ use Rattle.listing.specs.line.Lines.{check-ok, check-bad}
 use Rattle.listing.proofs.line.put_check.Statement.{statement}
 use Rattle.listing.proofs.line.put_check.Tie as tie
 
-slice-aggregate-put-bytes : tie.Need-slice-aggregate-put-bytes
-slice-aggregate-put-bytes c = refl
-
-put-bytes-requires : tie.Need-put-bytes-requires
-put-bytes-requires c κs = omega arith
-
 same-length : tie.Need-same-length
 same-length c = c .before .before .put-bytes .kept .0
 
@@ -21,12 +15,6 @@ unfolding ascii
 returns c =
     let pb = c .before .before in
     (check-ok _ (pb .before .before .before .if1 .taken) (pb .put-bytes .ensures), omega (arith, pb .put-bytes .ensures .ends))
-
-slice-aggregate-put-bytes-2 : tie.Need-slice-aggregate-put-bytes-2
-slice-aggregate-put-bytes-2 c = refl
-
-put-bytes-requires-2 : tie.Need-put-bytes-requires-2
-put-bytes-requires-2 c κs = omega arith
 
 same-length-2 : tie.Need-same-length-2
 same-length-2 c = c .before .before .put-bytes2 .kept .0
@@ -41,5 +29,5 @@ pub put-check-spec : {M : Type 1} → statement M
 put-check-spec =
     tie.close
     (tie.spec
-    slice-aggregate-put-bytes put-bytes-requires same-length returns slice-aggregate-put-bytes-2
-    put-bytes-requires-2 same-length-2 returns-2)
+    (λ c. refl) (λ c κs. omega arith) same-length returns (λ c. refl) (λ c κs. omega arith) same-length-2
+    returns-2)

@@ -7,24 +7,6 @@ use Rattle.octets.specs.text.Written.{then}
 use Rattle.listing.proofs.line.put_columns.Statement.{statement}
 use Rattle.listing.proofs.line.put_columns.Tie as tie
 
-slice-aggregate-put-number : tie.Need-slice-aggregate-put-number
-slice-aggregate-put-number c = refl
-
-slice-aggregate-put-number-2 : tie.Need-slice-aggregate-put-number-2
-slice-aggregate-put-number-2 c = refl
-
-put-number-requires : tie.Need-put-number-requires
-put-number-requires c κs = omega arith
-
-slice-aggregate-put-number-3 : tie.Need-slice-aggregate-put-number-3
-slice-aggregate-put-number-3 c = refl
-
-slice-aggregate-put-number-4 : tie.Need-slice-aggregate-put-number-4
-slice-aggregate-put-number-4 c = refl
-
-put-number-requires-2 : tie.Need-put-number-requires-2
-put-number-requires-2 c κs = omega arith
-
 same-length : tie.Need-same-length
 same-length c = c .before .before .put-number2 .kept .0 ∙ c .before .before .before .before .before .before .before .before .put-number .kept .0
 
@@ -39,5 +21,5 @@ pub put-columns-spec : {M : Type 1} → statement M
 put-columns-spec =
     tie.close
     (tie.spec
-    slice-aggregate-put-number slice-aggregate-put-number-2 put-number-requires slice-aggregate-put-number-3
-    slice-aggregate-put-number-4 put-number-requires-2 same-length returns)
+    (λ c. refl) (λ c. refl) (λ c κs. omega arith) (λ c. refl) (λ c. refl) (λ c κs. omega arith) same-length
+    returns)

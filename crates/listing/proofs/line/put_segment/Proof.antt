@@ -7,41 +7,8 @@ use Rattle.listing.specs.line.Lines.{line-written}
 use Rattle.listing.proofs.line.put_segment.Statement.{statement}
 use Rattle.listing.proofs.line.put_segment.Tie as tie
 
-add-u64-at : tie.Need-add-u64-at
-add-u64-at c = omega arith
-
-u64-at-requires : tie.Need-u64-at-requires
-u64-at-requires c κs = omega arith
-
-add-kind : tie.Need-add-kind
-add-kind c = omega arith
-
-shared-slice-read-kind : tie.Need-shared-slice-read-kind
-shared-slice-read-kind c = omega arith
-
 cast-kind : tie.Need-cast-kind
 cast-kind c = omega (arith, c .shared-slice-known3 .given (c .before .before .before .before .before .args .p + 5))
-
-add-u64-at-2 : tie.Need-add-u64-at-2
-add-u64-at-2 c = omega arith
-
-u64-at-requires-2 : tie.Need-u64-at-requires-2
-u64-at-requires-2 c κs = omega arith
-
-put-columns-requires : tie.Need-put-columns-requires
-put-columns-requires c κs = omega arith
-
-put-columns-requires-2 : tie.Need-put-columns-requires-2
-put-columns-requires-2 c κs = omega arith
-
-put-bytes-requires : tie.Need-put-bytes-requires
-put-bytes-requires c κs = omega arith
-
-is-whole-requires : tie.Need-is-whole-requires
-is-whole-requires c κs = omega arith
-
-put-check-requires : tie.Need-put-check-requires
-put-check-requires c κs = omega arith
 
 same-length : tie.Need-same-length
 same-length c =
@@ -52,29 +19,24 @@ same-length c =
 
 returns : tie.Need-returns
 returns c =
-    let z = line-written _ _ _ _ _ _ _
-    (c .before .before .before .before .before .before .before .before .before .before .before .before .before .before .before .before .u64-at2 .ensures)
-    refl
-    (c .before .before .before .before .before .before .before .before .before .before .before .before .before .before .before .before .before .before .before .u64-at .ensures)
-    (c .before .before .before .is-whole .ensures)
-    (c .before .before .before .before .before .before .before .before .before .before .before .before .before .before .before .put-columns .ensures .0)
-    (c .before .before .before .before .before .before .before .before .before .before .before .put-columns2 .ensures .0)
-    (c .before .before .before .before .before .before .before .put-bytes .ensures)
-    (c .before .before .put-check .ensures .0) in (
-      z,
-      omega (
-        arith,
-        c .before .before .before .before .before .before .before .before .before .before .before .before .before .before .before .put-columns .ensures .1,
-        c .before .before .before .before .before .before .before .before .before .before .before .put-columns2 .ensures .1,
-        c .before .before .before .before .before .before .before .put-bytes .ensures .ends,
-        c .before .before .put-check .ensures .1,
-      ),
+    let pk = c .before .before .put-check in
+    let pb = c .before .before .before .before .before .before .before .put-bytes in
+    let pc2 = c .before .before .before .before .before .before .before .before .before .before .before .put-columns2 in
+    let pc = c .before .before .before .before .before .before .before .before .before .before .before .before .before .before .before .put-columns in
+    let s =
+    c .before .before .before .before .before .before .before .before .before .before .before .before .before .before .before .before .before .before .before .before .before .before .before in (
+      line-written _ _ _ _ _ _ _
+          (c .before .before .before .before .before .before .before .before .before .before .before .before .before .before .before .before .u64-at2 .ensures)
+          refl
+          (c .before .before .before .before .before .before .before .before .before .before .before .before .before .before .before .before .before .before .before .u64-at .ensures)
+          (c .before .before .before .is-whole .ensures) (pc .ensures .0) (pc2 .ensures .0) (pb .ensures) (pk .ensures .0),
+      omega (arith, s .pre, s .fits, pc .ensures .1, pc2 .ensures .1, pb .ensures .ends, pk .ensures .1),
     )
 
 pub put-segment-spec : {M : Type 1} → statement M
 put-segment-spec =
     tie.close
     (tie.spec
-    add-u64-at u64-at-requires add-kind shared-slice-read-kind cast-kind add-u64-at-2 u64-at-requires-2
-    put-columns-requires put-columns-requires-2 put-bytes-requires is-whole-requires put-check-requires
-    same-length returns)
+    (λ c. omega arith) (λ c κs. omega arith) (λ c. omega arith) (λ c. omega arith) cast-kind (λ c. omega arith)
+    (λ c κs. omega arith) (λ c κs. omega arith) (λ c κs. omega arith) (λ c κs. omega arith)
+    (λ c κs. omega arith) (λ c κs. omega arith) same-length returns)

@@ -8,42 +8,12 @@ use borrow.Author.Needs.{needs}
 use Rattle.listing.proofs.text.put_text.Statement.{statement}
 use Rattle.listing.proofs.text.put_text.Tie as tie
 
-slice-aggregate-put-number : tie.Need-slice-aggregate-put-number
-slice-aggregate-put-number c = refl
-
-slice-aggregate-put-number-2 : tie.Need-slice-aggregate-put-number-2
-slice-aggregate-put-number-2 c = refl
-
-put-number-requires : tie.Need-put-number-requires
-put-number-requires c κs = omega arith
-
 same-length : tie.Need-same-length
 same-length c = c .before .before .put-number .kept .0
 
 returns : tie.Need-returns
 unfolding ascii
 returns c = refused-written _ 1 (list-long _ (omega arith)) (c .before .before .put-number .ensures .0)
-
-slice-aggregate-put-number-3 : tie.Need-slice-aggregate-put-number-3
-slice-aggregate-put-number-3 c = refl
-
-cast-put-number : tie.Need-cast-put-number
-cast-put-number c = omega arith
-
-slice-aggregate-put-number-4 : tie.Need-slice-aggregate-put-number-4
-slice-aggregate-put-number-4 c = refl
-
-put-number-requires-2 : tie.Need-put-number-requires-2
-put-number-requires-2 c κs = omega arith
-
-slice-aggregate-put-number-5 : tie.Need-slice-aggregate-put-number-5
-slice-aggregate-put-number-5 c = refl
-
-slice-aggregate-put-number-6 : tie.Need-slice-aggregate-put-number-6
-slice-aggregate-put-number-6 c = refl
-
-put-number-requires-3 : tie.Need-put-number-requires-3
-put-number-requires-3 c κs = omega arith
 
 put-list-requires : tie.Need-put-list-requires
 put-list-requires c κs =
@@ -79,8 +49,7 @@ pub put-text-spec : {M : Type 1} → statement M
 put-text-spec =
     tie.close
     (tie.spec
-    slice-aggregate-put-number slice-aggregate-put-number-2 put-number-requires same-length returns
-    (λ c. search needs) (λ c κs. search needs) (λ c. search needs) slice-aggregate-put-number-3 cast-put-number
-    slice-aggregate-put-number-4 put-number-requires-2 (λ c. search needs) slice-aggregate-put-number-5
-    slice-aggregate-put-number-6 put-number-requires-3 (λ c. search needs) (λ c. search needs) put-list-requires
-    same-length-2 returns-2 same-length-3 returns-3 same-length-4 returns-4)
+    (λ c. refl) (λ c. refl) (λ c κs. omega arith) same-length returns (search needs) (search needs)
+    (search needs) (λ c. refl) (λ c. omega arith) (λ c. refl) (λ c κs. omega arith) (search needs) (λ c. refl)
+    (λ c. refl) (λ c κs. omega arith) (search needs) (search needs) put-list-requires same-length-2 returns-2
+    same-length-3 returns-3 same-length-4 returns-4)

@@ -31,85 +31,57 @@ module _ (b : tie.In-loop Inv-loop μ-loop) where
 loop-holds : tie.Need-loop-holds Inv-loop μ-loop
 loop-holds c = (search-first _ _ _ _ (c .before .before .before .pre .1 .1), search needs)
 
-mul-p : tie.Need-mul-p Inv-loop μ-loop
-mul-p c =
-    let m = c .before .before .before .before .before .pre .1 .1 in
-    let a = entry c in
-    omega (arith, a .stored, a .few)
-
-shared-slice-read-p : tie.Need-shared-slice-read-p Inv-loop μ-loop
-shared-slice-read-p c =
-    let m = c .before .before .before .before .before .before .pre .1 .1 in
-    let a = entry (c .before) in
-    omega (arith, a .stored, a .few)
-
 add-if1 : tie.Need-add-if1 Inv-loop μ-loop
 add-if1 c =
-    let m = c .before .before .before .before .before .before .pre .1 .1 in
-    let a = entry (c .before) in
-    omega (arith, a .numbered .room, m .within)
+    let b = c .before in
+    omega (arith, entry b, s b .pre .1 .1 .within)
 
 shared-slice-read-if1 : tie.Need-shared-slice-read-if1 Inv-loop μ-loop
 shared-slice-read-if1 c =
-    let m = c .before .before .before .before .before .before .before .pre .1 .1 in
-    let a = entry (c .before .before) in
-    omega (arith, a .numbered .room, m .within)
+    let b = c .before .before in
+    omega (arith, entry b, s b .pre .1 .1 .within)
 
 loop-again : tie.Need-loop-again Inv-loop μ-loop
 loop-again c =
     let b = c .before .before .before in
-    let m = b .before .before .before .before .before .pre .1 .1 in
-    let a = entry (b) in
-    (search-other _ _ _ _ m _ _ _ (b .before .loop .inv .0) (omega arith) a (c .if1 .taken), b .before .loop .inv .1)
+    (search-other _ _ _ _ (s b .pre .1 .1) _ _ _ (b .before .loop .inv .0) (omega arith) (entry b) (c .if1 .taken), b .before .loop .inv .1)
 
 add-if2 : tie.Need-add-if2 Inv-loop μ-loop
 add-if2 c =
     let b = c .before .before .before in
-    let m = b .before .before .before .before .before .pre .1 .1 in
-    let a = entry (b) in
-    omega (arith, a .state-room, m .within, a .few)
+    omega (arith, entry b, s b .pre .1 .1 .within)
 
 mul-if2 : tie.Need-mul-if2 Inv-loop μ-loop
 mul-if2 c =
     let b = c .before .before .before in
-    let m = b .before .before .before .before .before .pre .1 .1 in
-    let a = entry (b) in
-    omega (arith, a .state-room, m .within, a .few)
+    omega (arith, entry b, s b .pre .1 .1 .within)
 
 add-if2-2 : tie.Need-add-if2-2 Inv-loop μ-loop
 add-if2-2 c =
     let b = c .before .before .before in
-    let m = b .before .before .before .before .before .pre .1 .1 in
-    let a = entry (b) in
-    omega (arith, a .state-room, m .within, a .few)
+    omega (arith, entry b, s b .pre .1 .1 .within)
 
 add-if2-3 : tie.Need-add-if2-3 Inv-loop μ-loop
 add-if2-3 c =
     let b = c .before .before .before in
-    let m = b .before .before .before .before .before .pre .1 .1 in
-    let a = entry (b) in
-    omega (arith, a .state-room, m .within, a .few)
+    omega (arith, entry b, s b .pre .1 .1 .within)
 
 shared-slice-read-if2 : tie.Need-shared-slice-read-if2 Inv-loop μ-loop
 shared-slice-read-if2 c =
     let b = c .before .before .before .before in
-    let m = b .before .before .before .before .before .pre .1 .1 in
-    let a = entry (b) in
-    omega (arith, a .state-room, m .within, a .few)
+    omega (arith, entry b, s b .pre .1 .1 .within)
 
 loop-again-2 : tie.Need-loop-again-2 Inv-loop μ-loop
 loop-again-2 c =
     let b = c .before .before .before .before .before in
-    let m = b .before .before .before .before .before .pre .1 .1 in
-    let a = entry (b) in
-    (search-retired _ _ _ _ m _ _ _ (b .before .loop .inv .0) (omega arith) a (c .if2 .taken), b .before .loop .inv .1)
+    (search-retired _ _ _ _ (s b .pre .1 .1) _ _ _ (b .before .loop .inv .0) (omega arith) (entry b) (c .if2 .taken), b .before .loop .inv .1)
 
 look-requires : tie.Need-look-requires Inv-loop μ-loop
 look-requires c κs =
     let b = c .before .before .before .before .before .before in
-    let s = b .before .before .before .before .before in
+    let s = s b in
     let m = s .pre .1 .1 in
-    let a = entry (b) in
+    let a = entry b in
     (omega (arith, a .numbered .room, a .numbered .length-is), omega (arith, b .before .loop .inv .1, s .pre .0 .1))
 
 loop-again-3 : tie.Need-loop-again-3 Inv-loop μ-loop
@@ -117,8 +89,8 @@ loop-again-3 c =
     let l = c .before .before .before .before in
     let e1 = l .before .before .before .before in
     let b = e1 .before .before .before in
-    let m = b .before .before .before .before .before .pre .1 .1 in
-    let a = entry (b) in (
+    let m = s b .pre .1 .1 in
+    let a = entry b in (
       search-on _ _ _ _ m _ _ _ (b .before .loop .inv .0) (omega arith) a (l .before .before .if2 .left)
           (e1 .if1 .left) (sym (l .look .ensures) ∙ c .enum-told .given .1),
       omega (arith, b .before .loop .inv .1),
@@ -129,9 +101,7 @@ returns c =
     let l = c .before .before .before .before .before in
     let e1 = l .before .before .before .before in
     let b = e1 .before .before .before in
-    let m = b .before .before .before .before .before .pre .1 .1 in
-    let a = entry (b) in
-    search-stop _ _ _ _ m _ _ _ (b .before .loop .inv .0) (omega arith) a (l .before .before .if2 .left)
+    search-stop _ _ _ _ (s b .pre .1 .1) _ _ _ (b .before .loop .inv .0) (omega arith) (entry b) (l .before .before .if2 .left)
     (e1 .if1 .left) _ (sym (l .look .ensures) ∙ c .before .segment .given .1)
     (λ q. let z : _≡_ {A = ℕ} 0 1 = cc in omega arith)
 
@@ -140,9 +110,7 @@ returns-2 c =
     let l = c .before .before .before .before .before in
     let e1 = l .before .before .before .before in
     let b = e1 .before .before .before in
-    let m = b .before .before .before .before .before .pre .1 .1 in
-    let a = entry (b) in
-    search-stop _ _ _ _ m _ _ _ (b .before .loop .inv .0) (omega arith) a (l .before .before .if2 .left)
+    search-stop _ _ _ _ (s b .pre .1 .1) _ _ _ (b .before .loop .inv .0) (omega arith) (entry b) (l .before .before .if2 .left)
     (e1 .if1 .left) _ (sym (l .look .ensures) ∙ c .before .segment2 .given .1)
     (λ q. let z : _≡_ {A = ℕ} 0 1 = cc in omega arith)
 
@@ -153,7 +121,8 @@ pub search-spec : {M : Type 1} → statement M
 search-spec =
     tie.close
     (tie.spec
-    Inv-loop μ-loop loop-holds (λ c. search needs) mul-p shared-slice-read-p add-if1 shared-slice-read-if1
-    (λ c. search needs) loop-again add-if2 mul-if2 add-if2-2 add-if2-3 shared-slice-read-if2 (λ c. search needs)
-    loop-again-2 look-requires (λ c. search needs) (λ c. search needs) loop-again-3 (λ c. search needs)
-    (λ c. search needs) returns (λ c. search needs) (λ c. search needs) returns-2 (λ c. search needs) returns-3)
+    Inv-loop μ-loop loop-holds (search needs) (λ c. omega (arith, entry c))
+    (λ c. omega (arith, entry (c .before))) add-if1 shared-slice-read-if1 (search needs) loop-again add-if2
+    mul-if2 add-if2-2 add-if2-3 shared-slice-read-if2 (search needs) loop-again-2 look-requires (search needs)
+    (search needs) loop-again-3 (search needs) (search needs) returns (search needs) (search needs) returns-2
+    (search needs) returns-3)

@@ -5,12 +5,6 @@ use borrow.Author.Needs.{needs}
 use Rattle.lookup.proofs.payload.number_of.Statement.{statement}
 use Rattle.lookup.proofs.payload.number_of.Tie as tie
 
-enum-told : tie.Need-enum-told
-enum-told c = search needs
-
-enum-known-place : tie.Need-enum-known-place
-enum-known-place c = search needs
-
 returns : tie.Need-returns
 returns c = number-at _ _ _ (c .enum-told .given .1)
 
@@ -18,4 +12,4 @@ returns-2 : tie.Need-returns-2
 returns-2 c = number-not _ _ (c .before .place .given .1)
 
 pub number-of-spec : {M : Type 1} → statement M
-number-of-spec = tie.close (tie.spec enum-told enum-known-place returns returns-2)
+number-of-spec = tie.close (tie.spec (search needs) (search needs) returns returns-2)

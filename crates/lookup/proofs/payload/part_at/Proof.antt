@@ -35,6 +35,5 @@ pub part-at-spec : {M : Type 1} → statement M
 part-at-spec =
     tie.close
     (tie.spec
-    (λ c. search needs) (λ c. search needs) returns (λ c. search needs) (λ c. search needs) returns-2
-    (λ c. search needs) (λ c. search needs) (λ c. search needs) (λ c. search needs) (λ c. search needs)
-    (λ c. search needs) returns-3 returns-4)
+    (search needs) (search needs) returns (search needs) (search needs) returns-2 (search needs) (search needs)
+    (search needs) (search needs) (search needs) (search needs) returns-3 returns-4)

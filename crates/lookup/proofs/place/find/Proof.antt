@@ -30,132 +30,90 @@ module _ (b : tie.In-loop Inv-loop μ-loop) where
 loop-holds : tie.Need-loop-holds Inv-loop μ-loop
 loop-holds c = find-first _ _ _
 
-mul-p : tie.Need-mul-p Inv-loop μ-loop
-mul-p c =
-    let a = entry c in
-    omega (arith, a .stored, a .few)
-
-shared-slice-read-p : tie.Need-shared-slice-read-p Inv-loop μ-loop
-shared-slice-read-p c =
-    let a = entry (c .before) in
-    omega (arith, a .stored, a .few)
-
 add-u64-at : tie.Need-add-u64-at Inv-loop μ-loop
 add-u64-at c =
-    let m = c .before .before .before .before .before .pre .1 .1 in
-    let a = entry (c .before) in
-    omega (arith, a .numbered .room, m .within)
+    let b = c .before in
+    omega (arith, entry b, s b .pre .1 .1 .within)
 
 u64-at-requires : tie.Need-u64-at-requires Inv-loop μ-loop
 u64-at-requires c κs =
-    let m = c .before .before .before .before .before .pre .1 .1 in
-    let a = entry (c .before) in
-    omega (arith, a .numbered .room, m .within)
+    let b = c .before in
+    omega (arith, entry b, s b .pre .1 .1 .within)
 
 add-i : tie.Need-add-i Inv-loop μ-loop
-add-i c =
-    let a = entry (c .before .before .before) in
-    omega (arith, a .few)
+add-i c = omega (arith, entry (c .before .before .before) .few)
 
 loop-again : tie.Need-loop-again Inv-loop μ-loop
 loop-again c =
     let b = c .before .before .before in
-    let m = b .before .before .before .before .pre .1 .1 in
-    let a = entry (b) in
-    find-other _ _ _ _ m _ _ (b .before .loop .inv) (omega arith) a _ (c .before .u64-at .ensures) (c .if1 .taken)
+    find-other _ _ _ _ (s b .pre .1 .1) _ _ (b .before .loop .inv) (omega arith) (entry b) _ (c .before .u64-at .ensures) (c .if1 .taken)
 
 add-if2 : tie.Need-add-if2 Inv-loop μ-loop
 add-if2 c =
     let b = c .before .before .before in
-    let m = b .before .before .before .before .pre .1 .1 in
-    let a = entry (b) in
-    omega (arith, a .state-room, m .within, a .few)
+    omega (arith, entry b, s b .pre .1 .1 .within)
 
 mul-if2 : tie.Need-mul-if2 Inv-loop μ-loop
 mul-if2 c =
     let b = c .before .before .before in
-    let m = b .before .before .before .before .pre .1 .1 in
-    let a = entry (b) in
-    omega (arith, a .state-room, m .within, a .few)
+    omega (arith, entry b, s b .pre .1 .1 .within)
 
 add-if2-2 : tie.Need-add-if2-2 Inv-loop μ-loop
 add-if2-2 c =
     let b = c .before .before .before in
-    let m = b .before .before .before .before .pre .1 .1 in
-    let a = entry (b) in
-    omega (arith, a .state-room, m .within, a .few)
+    omega (arith, entry b, s b .pre .1 .1 .within)
 
 add-if2-3 : tie.Need-add-if2-3 Inv-loop μ-loop
 add-if2-3 c =
     let b = c .before .before .before in
-    let m = b .before .before .before .before .pre .1 .1 in
-    let a = entry (b) in
-    omega (arith, a .state-room, m .within, a .few)
+    omega (arith, entry b, s b .pre .1 .1 .within)
 
 shared-slice-read-if2 : tie.Need-shared-slice-read-if2 Inv-loop μ-loop
 shared-slice-read-if2 c =
     let b = c .before .before .before .before in
-    let m = b .before .before .before .before .pre .1 .1 in
-    let a = entry (b) in
-    omega (arith, a .state-room, m .within, a .few)
+    omega (arith, entry b, s b .pre .1 .1 .within)
 
 add-i-2 : tie.Need-add-i-2 Inv-loop μ-loop
-add-i-2 c =
-    let a = entry (c .before .before .before .before .before) in
-    omega (arith, a .few)
+add-i-2 c = omega (arith, entry (c .before .before .before .before .before) .few)
 
 loop-again-2 : tie.Need-loop-again-2 Inv-loop μ-loop
 loop-again-2 c =
     let b = c .before .before .before .before .before in
-    let m = b .before .before .before .before .pre .1 .1 in
-    let a = entry (b) in
-    find-retired _ _ _ _ m _ _ (b .before .loop .inv) (omega arith) a (c .if2 .taken)
+    find-retired _ _ _ _ (s b .pre .1 .1) _ _ (b .before .loop .inv) (omega arith) (entry b) (c .if2 .taken)
 
 add-u64-at-2 : tie.Need-add-u64-at-2 Inv-loop μ-loop
 add-u64-at-2 c =
     let b = c .before .before .before .before .before in
-    let m = b .before .before .before .before .pre .1 .1 in
-    let a = entry (b) in
-    omega (arith, a .numbered .room, m .within)
+    omega (arith, entry b, s b .pre .1 .1 .within)
 
 u64-at-requires-2 : tie.Need-u64-at-requires-2 Inv-loop μ-loop
 u64-at-requires-2 c κs =
     let b = c .before .before .before .before .before in
-    let m = b .before .before .before .before .pre .1 .1 in
-    let a = entry (b) in
-    omega (arith, a .numbered .room, m .within)
+    omega (arith, entry b, s b .pre .1 .1 .within)
 
 is-whole-requires : tie.Need-is-whole-requires Inv-loop μ-loop
-is-whole-requires c κs =
-    let a = entry (c .before .before .before .before .before .before) in
-    omega (arith, a .numbered .room, a .numbered .length-is, c .u64-at2 .ensures)
+is-whole-requires c κs = omega (arith, entry (c .before .before .before .before .before .before) .numbered, c .u64-at2 .ensures)
 
 returns : tie.Need-returns Inv-loop μ-loop
 returns c =
     let ua2 = c .before .before in
     let e1 = ua2 .before .before .before in
     let b = e1 .before .before .before in
-    let m = b .before .before .before .before .pre .1 .1 in
-    let a = entry (b) in
-    find-torn _ _ _ _ m _ _ (b .before .loop .inv) (omega arith) a _ (e1 .before .u64-at .ensures) (e1 .if1 .left)
+    find-torn _ _ _ _ (s b .pre .1 .1) _ _ (b .before .loop .inv) (omega arith) (entry b) _ (e1 .before .u64-at .ensures) (e1 .if1 .left)
     (ua2 .before .if2 .left) _ (ua2 .u64-at2 .ensures)
     (sym (c .before .is-whole .ensures) ∙ not-true _ (c .if3 .taken))
 
 add-t10 : tie.Need-add-t10 Inv-loop μ-loop
 add-t10 c =
     let b = c .before .before .before .before .before .before .before .before in
-    let m = b .before .before .before .before .pre .1 .1 in
-    let a = entry (b) in
-    omega (arith, a .numbered .room, m .within)
+    omega (arith, entry b, s b .pre .1 .1 .within)
 
 returns-2 : tie.Need-returns-2 Inv-loop μ-loop
 returns-2 c =
     let ua2 = c .before .before in
     let e1 = ua2 .before .before .before in
     let b = e1 .before .before .before in
-    let m = b .before .before .before .before .pre .1 .1 in
-    let a = entry (b) in
-    find-whole _ _ _ _ m _ _ (b .before .loop .inv) (omega arith) a _ (e1 .before .u64-at .ensures) (e1 .if1 .left)
+    find-whole _ _ _ _ (s b .pre .1 .1) _ _ (b .before .loop .inv) (omega arith) (entry b) _ (e1 .before .u64-at .ensures) (e1 .if1 .left)
     (ua2 .before .if2 .left) _ (ua2 .u64-at2 .ensures)
     (sym (c .before .is-whole .ensures) ∙ not-false _ (c .if3 .left))
 
@@ -166,6 +124,7 @@ pub find-spec : {M : Type 1} → statement M
 find-spec =
     tie.close
     (tie.spec
-    Inv-loop μ-loop loop-holds mul-p shared-slice-read-p add-u64-at u64-at-requires add-i (λ c. search needs)
-    loop-again add-if2 mul-if2 add-if2-2 add-if2-3 shared-slice-read-if2 add-i-2 (λ c. search needs)
-    loop-again-2 add-u64-at-2 u64-at-requires-2 is-whole-requires returns add-t10 returns-2 returns-3)
+    Inv-loop μ-loop loop-holds (λ c. omega (arith, entry c)) (λ c. omega (arith, entry (c .before))) add-u64-at
+    u64-at-requires add-i (search needs) loop-again add-if2 mul-if2 add-if2-2 add-if2-3 shared-slice-read-if2
+    add-i-2 (search needs) loop-again-2 add-u64-at-2 u64-at-requires-2 is-whole-requires returns add-t10
+    returns-2 returns-3)

@@ -28,5 +28,5 @@ pub payload-place-spec : {M : Type 1} → statement M
 payload-place-spec =
     tie.close
     (tie.spec
-    (λ c. search needs) (λ c κs. search needs) (λ c. search needs) (λ c. search needs) (λ c. search needs)
-    (λ c. search needs) find-requires returns returns-2 (λ c. search needs))
+    (search needs) (search needs) (search needs) (search needs) (search needs) (search needs) find-requires
+    returns returns-2 (λ c. search needs))

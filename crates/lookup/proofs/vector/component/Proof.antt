@@ -22,4 +22,4 @@ pub component-spec : {M : Type 1} → statement M
 component-spec =
     tie.close
     (tie.spec
-    (λ c κs. search needs) (λ c. search needs) (λ c. search needs) component-at-requires returns returns-2)
+    (search needs) (search needs) (search needs) component-at-requires returns returns-2)

@@ -36,5 +36,5 @@ pub component-bits-spec : {M : Type 1} → statement M
 component-bits-spec =
     tie.close
     (tie.spec
-    (λ c κs. search needs) (λ c. search needs) (λ c. search needs) u32-at-requires returns shared-slice-read-t12
-    cast-t13 returns-2 returns-3)
+    (search needs) (search needs) (search needs) u32-at-requires returns shared-slice-read-t12 cast-t13
+    returns-2 returns-3)

@@ -63,6 +63,6 @@ pub vector-spec : {M : Type 1} → statement M
 vector-spec =
     tie.close
     (tie.spec
-    (λ c κs. search needs) (λ c. search needs) (λ c. search needs) (λ c. search needs) add-end
-    (λ c. search needs) (λ c. search needs) part-read-vector-end read-vector-requires (λ c. search needs)
-    (λ c. search needs) returns returns-2 (λ c. search needs) returns-3 (λ c. search needs) returns-4)
+    (search needs) (search needs) (search needs) (search needs) add-end (search needs) (search needs)
+    part-read-vector-end read-vector-requires (search needs) (search needs) returns returns-2 (search needs)
+    returns-3 (search needs) returns-4)

@@ -34,10 +34,11 @@ cast-r c = omega (arith, c .shared-slice-known .given (c .before .before .before
 
 add-r-2 : tie.Need-add-r-2 Inv-loop μ-loop
 add-r-2 c =
-    let l = c .before .before .loop in
-    let at = c .before .before .before .args .at + (l .i - 1) in
+    let l′ = c .before .before in
+    let l = l′ .loop in
+    let at = l′ .before .args .at + (l .i - 1) in
     record {
-      fits = reads-fits _ _ _ _ _ _ (l .inv) (c .before .before .before .pre .1) (omega arith)
+      fits = reads-fits _ _ _ _ _ _ (l .inv) (l′ .before .pre .1) (omega arith)
           (omega (arith, c .shared-slice-known .given at));
     }
 
@@ -56,5 +57,5 @@ pub number-at-spec : {M : Type 1} → statement M
 number-at-spec =
     tie.close
     (tie.spec
-    Inv-loop μ-loop loop-holds (λ c. search needs) mul-r add-r shared-slice-read-r cast-r add-r-2
-    (λ c. search needs) loop-again returns)
+    Inv-loop μ-loop loop-holds (search needs) mul-r add-r shared-slice-read-r cast-r add-r-2 (search needs)
+    loop-again returns)

@@ -7,24 +7,6 @@ use borrow.Author.Needs.{needs}
 use Rattle.octets.proofs.text.put_bytes.Statement.{statement}
 use Rattle.octets.proofs.text.put_bytes.Tie as tie
 
-sub-copy : tie.Need-sub-copy
-sub-copy c = omega arith
-
-part-copy-start : tie.Need-part-copy-start
-part-copy-start c = search needs
-
-part-copy-end : tie.Need-part-copy-end
-part-copy-end c = search needs
-
-copy-requires : tie.Need-copy-requires
-copy-requires c κs = omega arith
-
-add-result : tie.Need-add-result
-add-result c = omega arith
-
-same-length : tie.Need-same-length
-same-length c = search needs
-
 returns : tie.Need-returns
 returns c =
     let s = c .before .before .before .before .before .before in
@@ -37,4 +19,6 @@ returns c =
 pub put-bytes-spec : {M : Type 1} → statement M
 put-bytes-spec =
     tie.close
-    (tie.spec sub-copy part-copy-start part-copy-end copy-requires add-result same-length returns)
+    (tie.spec
+    (λ c. omega arith) (search needs) (search needs) (λ c κs. omega arith) (λ c. omega arith) (search needs)
+    returns)

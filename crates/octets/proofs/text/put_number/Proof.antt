@@ -7,9 +7,6 @@ use borrow.Author.Needs.{needs}
 use Rattle.octets.proofs.text.put_number.Statement.{statement}
 use Rattle.octets.proofs.text.put_number.Tie as tie
 
-put-bytes-requires : tie.Need-put-bytes-requires
-put-bytes-requires c κs = omega arith
-
 put-decimal-requires : tie.Need-put-decimal-requires
 put-decimal-requires c κs =
     let pb = c .before .before .before in
@@ -28,9 +25,6 @@ put-bytes-requires-2 c κs =
     let d = decimal-u64 (s .args .n) (omega (arith, s .fits .n)) in
     omega (arith, z .ensures .ends, z .kept .0, y .ensures .ends, y .kept .0)
 
-same-length : tie.Need-same-length
-same-length c = search needs
-
 returns : tie.Need-returns
 returns c =
     let pd = c .before .before .before .before .before .before in
@@ -45,4 +39,5 @@ returns c =
 pub put-number-spec : {M : Type 1} → statement M
 put-number-spec =
     tie.close
-    (tie.spec put-bytes-requires put-decimal-requires put-bytes-requires-2 same-length returns)
+    (tie.spec
+    (λ c κs. omega arith) put-decimal-requires put-bytes-requires-2 (search needs) returns)

@@ -61,8 +61,7 @@ pub header-sound-spec : {M : Type 1} → statement M
 header-sound-spec =
     tie.close
     (tie.spec
-    slice-aggregate-same (λ c. search needs) (λ c κs. search needs) returns (λ c. search needs) returns-2
-    (λ c. search needs) (λ c κs. search needs) returns-3 (λ c κs. search needs) (λ c κs. search needs) returns-4
-    (λ c. search needs) returns-5 (λ c. search needs) (λ c. search needs) (λ c. search needs)
-    (λ c κs. search needs) returns-6 (λ c. search needs) (λ c. search needs) (λ c. search needs)
-    (λ c κs. search needs) returns-7 (λ c κs. search needs) (λ c κs. search needs) returns-8)
+    slice-aggregate-same (search needs) (search needs) returns (search needs) returns-2 (search needs)
+    (search needs) returns-3 (search needs) (search needs) returns-4 (search needs) returns-5 (search needs)
+    (search needs) (search needs) (search needs) returns-6 (search needs) (search needs) (search needs)
+    (search needs) returns-7 (search needs) (search needs) returns-8)

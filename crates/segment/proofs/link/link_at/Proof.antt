@@ -58,7 +58,7 @@ pub link-at-spec : {M : Type 1} → statement M
 link-at-spec =
     tie.close
     (tie.spec
-    returns (λ c. search needs) returns-2 (λ c. search needs) (λ c. search needs) (λ c. search needs)
-    (λ c. search needs) (λ c κs. search needs) returns-3 (λ c κs. search needs) returns-4 (λ c κs. search needs)
-    returns-5 (λ c. search needs) (λ c. search needs) sub-is-zero part-is-zero-start (λ c. search needs)
-    (λ c κs. search needs) returns-6 (λ c κs. search needs) (λ c. search needs) (λ c κs. search needs) returns-7)
+    returns (search needs) returns-2 (search needs) (search needs) (search needs) (search needs) (search needs)
+    returns-3 (search needs) returns-4 (search needs) returns-5 (search needs) (search needs) sub-is-zero
+    part-is-zero-start (search needs) (search needs) returns-6 (search needs) (search needs) (search needs)
+    returns-7)

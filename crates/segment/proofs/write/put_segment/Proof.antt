@@ -40,6 +40,5 @@ pub put-segment-spec : {M : Type 1} → statement M
 put-segment-spec =
     tie.close
     (tie.spec
-    (λ c. search needs) (λ c κs. search needs) (λ c. search needs) (λ c κs. search needs) (λ c κs. search needs)
-    (λ c. search needs) (λ c. search needs) (λ c. search needs) copy-requires sub-clear part-clear-start
-    (λ c. search needs) (λ c κs. search needs) (λ c. search needs) returns)
+    (search needs) (search needs) (search needs) (search needs) (search needs) (search needs) (search needs)
+    (search needs) copy-requires sub-clear part-clear-start (search needs) (search needs) (search needs) returns)

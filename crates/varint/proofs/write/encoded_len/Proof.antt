@@ -16,20 +16,11 @@ abbrev μ-loop : tie.MeasureT-loop
 loop-holds : tie.Need-loop-holds Inv-loop μ-loop
 loop-holds c = (stands-first _ (omega arith), omega arith)
 
-add-d : tie.Need-add-d Inv-loop μ-loop
-add-d c = search needs
-
-loop-less : tie.Need-loop-less Inv-loop μ-loop
-loop-less c = search needs
-
 loop-again : tie.Need-loop-again Inv-loop μ-loop
 loop-again c =
     let l = c .before .loop in
     let s = stands-more _ _ _ (l .inv .0) (c .loop-test .taken) in
     (s, s .few)
-
-add-result : tie.Need-add-result Inv-loop μ-loop
-add-result c = search needs
 
 returns : tie.Need-returns Inv-loop μ-loop
 returns c =
@@ -38,4 +29,6 @@ returns c =
 
 pub encoded-len-spec : {M : Type 1} → statement M
 encoded-len-spec =
-    tie.close (tie.spec Inv-loop μ-loop loop-holds add-d loop-less loop-again add-result returns)
+    tie.close
+    (tie.spec
+    Inv-loop μ-loop loop-holds (search needs) (search needs) loop-again (search needs) returns)

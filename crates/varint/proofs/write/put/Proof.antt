@@ -60,6 +60,6 @@ pub put-spec : {M : Type 1} → statement M
 put-spec =
     tie.close
     (tie.spec
-    Inv-loop μ-loop loop-holds (λ c. search needs) (λ c. search needs) add-out-2 slice-write-out
-    (λ c. search needs) (λ c. search needs) loop-again (λ c. search needs) add-out-3 slice-write-out-2
-    (λ c. search needs) (λ c. search needs) (λ c. search needs) returns)
+    Inv-loop μ-loop loop-holds (search needs) (search needs) add-out-2 slice-write-out (search needs)
+    (search needs) loop-again (search needs) add-out-3 slice-write-out-2 (search needs) (search needs)
+    (λ c. search needs) returns)

@@ -7,20 +7,11 @@ use borrow.Author.Needs.{needs}
 use Rattle.varint.proofs.write.write.Statement.{statement}
 use Rattle.varint.proofs.write.write.Tie as tie
 
-encoded-len-requires : tie.Need-encoded-len-requires
-encoded-len-requires c κs = search needs
-
 returns : tie.Need-returns
 returns c = write-short _ _ 0 refl (omega arith)
-
-put-requires : tie.Need-put-requires
-put-requires c κs = search needs
-
-same-length : tie.Need-same-length
-same-length c = search needs
 
 returns-2 : tie.Need-returns-2
 returns-2 c = write-done _ _ 0 _ _ refl (omega arith) (omega arith) (cc)
 
 pub write-spec : {M : Type 1} → statement M
-write-spec = tie.close (tie.spec encoded-len-requires returns put-requires same-length returns-2)
+write-spec = tie.close (tie.spec (search needs) returns (search needs) (search needs) returns-2)

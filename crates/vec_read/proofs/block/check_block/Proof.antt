@@ -37,29 +37,19 @@ returns-2 c =
     check-broken _ _ _ _ _ (columns-are _ _ _ _ (d .before .before .before .before .width-of .ensures))
     (omega arith) _ (sym (d .decode .ensures .0) ∙ c .before .m .given .1)
 
-add-end : tie.Need-add-end
-add-end c =
-    let d = c .before .before .before .before .before in
-    let wo = d .before .before .before .before in
-    let s = wo .before .before .before in
-    omega (
-      arith,
-      check-fits (s .args .s .now) (s .args .count) (s .args .dim) (s .args .dtype) _
-          (columns-are (s .args .count) (s .args .dim) (s .args .dtype) (wo .width-of .result) (wo .width-of .ensures))
-          (omega arith) (c .before .m2 .given .0 .0) (sym (d .decode .ensures .0) ∙ c .before .m2 .given .1),
-    )
+-- Where the map is read: it lies behind the columns, in the block.
+module _ (m : tie.After-m2) where
+  abbrev wo : tie.After-width-of
+  wo = m .before .before .before .before .before .before .before .before
 
-sub-if2 : tie.Need-sub-if2
-sub-if2 c =
-    let d = c .before .before .before .before .before in
-    let wo = d .before .before .before .before in
-    let s = wo .before .before .before in
-    omega (
-      arith,
+  abbrev s : tie.Start
+  s = wo .before .before .before
+
+  fits : s .args .count * s .args .dim * wo .width-of .result + m .m2 .given .0 .0 ≤ length (s .args .s .now)
+  fits =
       check-fits (s .args .s .now) (s .args .count) (s .args .dim) (s .args .dtype) _
-          (columns-are (s .args .count) (s .args .dim) (s .args .dtype) (wo .width-of .result) (wo .width-of .ensures))
-          (omega arith) (c .before .m2 .given .0 .0) (sym (d .decode .ensures .0) ∙ c .before .m2 .given .1),
-    )
+      (columns-are (s .args .count) (s .args .dim) (s .args .dtype) (wo .width-of .result) (wo .width-of .ensures)) (omega arith)
+      (m .m2 .given .0 .0) (sym (m .before .before .before .before .decode .ensures .0) ∙ m .m2 .given .1)
 
 returns-3 : tie.Need-returns-3
 returns-3 c =
@@ -68,27 +58,10 @@ returns-3 c =
     _ (sym (d .decode .ensures .0) ∙ c .before .before .m2 .given .1) (omega arith)
 
 u32-at-requires : tie.Need-u32-at-requires
-u32-at-requires c κs =
-    let m = c .before .before in
-    let d = m .before .before .before .before in
-    let wo = d .before .before .before .before in
-    let s = wo .before .before .before in
-    omega (
-      arith,
-      check-fits (s .args .s .now) (s .args .count) (s .args .dim) (s .args .dtype) _
-          (columns-are (s .args .count) (s .args .dim) (s .args .dtype) (wo .width-of .result) (wo .width-of .ensures))
-          (omega arith) (m .m2 .given .0 .0) (sym (d .decode .ensures .0) ∙ m .m2 .given .1),
-    )
+u32-at-requires c κs = omega (arith, fits (c .before .before))
 
 slice-aggregate-checksum : tie.Need-slice-aggregate-checksum
-slice-aggregate-checksum c =
-    let m = c .before .before .before .before in
-    let d = m .before .before .before .before in
-    let wo = d .before .before .before .before in
-    let s = wo .before .before .before in
-    sym (length-take-le _ _ (check-fits (s .args .s .now) (s .args .count) (s .args .dim) (s .args .dtype) _
-    (columns-are (s .args .count) (s .args .dim) (s .args .dtype) (wo .width-of .result) (wo .width-of .ensures))
-    (omega arith) (m .m2 .given .0 .0) (sym (d .decode .ensures .0) ∙ m .m2 .given .1)))
+slice-aggregate-checksum c = sym (length-take-le _ _ (fits (c .before .before .before .before)))
 
 returns-4 : tie.Need-returns-4
 returns-4 c =
@@ -124,8 +97,8 @@ pub check-block-spec : {M : Type 1} → statement M
 check-block-spec =
     tie.close
     (tie.spec
-    mul-columns (λ c κs. search needs) mul-columns-2 returns (λ c. search needs) (λ c. search needs)
-    (λ c. search needs) (λ c κs. search needs) (λ c. search needs) (λ c. search needs) returns-2
-    (λ c. search needs) add-end sub-if2 (λ c. search needs) returns-3 u32-at-requires slice-aggregate-checksum
-    (λ c κs. search needs) (λ c. search needs) returns-4 (λ c. search needs) (λ c κs. search needs)
-    (λ c. search needs) returns-5 (λ c. search needs) (λ c κs. search needs) (λ c. search needs) returns-6)
+    mul-columns (search needs) mul-columns-2 returns (search needs) (search needs) (search needs) (search needs)
+    (search needs) (search needs) returns-2 (search needs) (λ c. omega (arith, fits (c .before)))
+    (λ c. omega (arith, fits (c .before))) (search needs) returns-3 u32-at-requires slice-aggregate-checksum
+    (search needs) (search needs) returns-4 (search needs) (search needs) (search needs) returns-5
+    (search needs) (search needs) (search needs) returns-6)

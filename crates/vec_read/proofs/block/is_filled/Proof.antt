@@ -28,5 +28,4 @@ pub is-filled-spec : {M : Type 1} → statement M
 is-filled-spec =
     tie.close
     (tie.spec
-    (λ c κs. search needs) returns sub-is-zero part-is-zero-start (λ c. search needs) (λ c κs. search needs)
-    returns-2)
+    (search needs) returns sub-is-zero part-is-zero-start (search needs) (search needs) returns-2)

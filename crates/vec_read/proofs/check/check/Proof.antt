@@ -60,6 +60,5 @@ pub check-spec : {M : Type 1} → statement M
 check-spec =
     tie.close
     (tie.spec
-    returns (λ c κs. search needs) (λ c. search needs) returns-2 (λ c. search needs) (λ c. search needs)
-    returns-3 (λ c κs. search needs) returns-4 (λ c κs. search needs) returns-5 (λ c κs. search needs)
-    (λ c. search needs) check-blocks-requires returns-6)
+    returns (search needs) (search needs) returns-2 (search needs) (search needs) returns-3 (search needs)
+    returns-4 (search needs) returns-5 (search needs) (search needs) check-blocks-requires returns-6)

@@ -80,9 +80,8 @@ pub check-blocks-spec : {M : Type 1} → statement M
 check-blocks-spec =
     tie.close
     (tie.spec
-    Inv-loop μ-loop loop-holds (λ c. search needs) (λ c. search needs) (λ c κs. search needs)
-    (λ c. search needs) (λ c. search needs) returns (λ c. search needs) (λ c κs. search needs)
-    (λ c. search needs) (λ c. search needs) (λ c κs. search needs) (λ c. search needs) sub-check-block
-    part-check-block-start (λ c. search needs) (λ c. search needs) (λ c. search needs) check-block-requires
-    (λ c. search needs) (λ c. search needs) returns-2 (λ c. search needs) add-at (λ c. search needs)
-    (λ c. search needs) loop-again (λ c. search needs) returns-3 (λ c. search needs) returns-4)
+    Inv-loop μ-loop loop-holds (search needs) (search needs) (search needs) (search needs) (search needs)
+    returns (search needs) (search needs) (search needs) (search needs) (search needs) (search needs)
+    sub-check-block part-check-block-start (search needs) (search needs) (search needs) check-block-requires
+    (search needs) (search needs) returns-2 (search needs) add-at (search needs) (search needs) loop-again
+    (search needs) returns-3 (search needs) returns-4)

@@ -18,37 +18,38 @@ Inv-loop s id own₀ j₀ own j = (SearchAt s id j) × (length own ≡ length ow
 abbrev μ-loop : tie.MeasureT-loop
 μ-loop s id own₀ j₀ own j = j
 
+abbrev call : tie.In-loop Inv-loop μ-loop → tie.Start Inv-loop μ-loop
+call b = b .before .before .before .before .before
+
 -- the directory's lines are there
-lines : (c : tie.In-loop Inv-loop μ-loop) → 4 + 12 * c .before .loop .j ≤ length (c .before .before .before .before .before .args .s .now)
-lines c =
-    let few = c .before .loop .inv .0 .few in
-    omega (arith, sound _ (c .before .before .before .before .before .pre .0) .room)
+lines : (b : tie.In-loop Inv-loop μ-loop) → 4 + 12 * b .before .loop .j ≤ length (call b .args .s .now)
+lines b =
+    let few = b .before .loop .inv .0 .few in
+    omega (arith, sound _ (call b .pre .0) .room)
 
--- the numbers of the line that is looked at
-bounds : (c : tie.After-width-of Inv-loop μ-loop) → (1 ≤ c .before .before .before .u32-at3 .result)
-    × (c .before .before .before .u32-at3 .result ≤ 4096) × (c .before .before .u16-at .result ≤ 1024)
-bounds c =
-    let ua3 = c .before .before .before in
-    let b = ua3 .before .before in
-    let s′ = b .before .before .before .before .before in
-    let s = s′ .args .s .now in
-    let l = b .before .loop in
-    turn-bounds s (s′ .pre .0) _ (l .j) (l .inv .0) (b .loop-test .taken) _ _ _
-    (getD s (4 + 12 * (l .j - 1) + 10) 0) _ (ua3 .before .u32-at2 .ensures) (ua3 .u32-at3 .ensures)
-    (c .before .before .u16-at .ensures) refl (c .width-of .ensures)
+-- where the line that is looked at is read: its numbers
+module _ (w : tie.After-width-of Inv-loop μ-loop) where
+  abbrev u1 : tie.After-u16-at Inv-loop μ-loop
+  u1 = w .before .before
 
-room : (c : tie.After-width-of Inv-loop μ-loop) → c .before .before .before .before .u32-at2 .result
-    + c .before .before .before .u32-at3 .result * c .before .before .u16-at .result * c .width-of .result
-    ≤ length (c .before .before .before .before .before .before .before .before .before .before .args .s .now)
-room c =
-    let ua3 = c .before .before .before in
-    let b = ua3 .before .before in
-    let s′ = b .before .before .before .before .before in
-    let s = s′ .args .s .now in
-    let l = b .before .loop in
-    turn-room s (s′ .pre .0) _ (l .j) (l .inv .0) (b .loop-test .taken) _ _ _
-    (getD s (4 + 12 * (l .j - 1) + 10) 0) _ (ua3 .before .u32-at2 .ensures) (ua3 .u32-at3 .ensures)
-    (c .before .before .u16-at .ensures) refl (c .width-of .ensures)
+  abbrev u3 : tie.After-u32-at3 Inv-loop μ-loop
+  u3 = u1 .before
+
+  abbrev u2 : tie.After-u32-at2 Inv-loop μ-loop
+  u2 = u3 .before
+
+  abbrev b : tie.In-loop Inv-loop μ-loop
+  b = u2 .before
+
+  bounds : (1 ≤ u3 .u32-at3 .result) × (u3 .u32-at3 .result ≤ 4096) × (u1 .u16-at .result ≤ 1024)
+  bounds =
+      turn-bounds (call b .args .s .now) (call b .pre .0) _ (b .before .loop .j) (b .before .loop .inv .0) (b .loop-test .taken)
+      _ _ _ _ _ (u2 .u32-at2 .ensures) (u3 .u32-at3 .ensures) (u1 .u16-at .ensures) refl (w .width-of .ensures)
+
+  room : u2 .u32-at2 .result + u3 .u32-at3 .result * u1 .u16-at .result * w .width-of .result ≤ length (call b .args .s .now)
+  room =
+      turn-room (call b .args .s .now) (call b .pre .0) _ (b .before .loop .j) (b .before .loop .inv .0) (b .loop-test .taken)
+      _ _ _ _ _ (u2 .u32-at2 .ensures) (u3 .u32-at3 .ensures) (u1 .u16-at .ensures) refl (w .width-of .ensures)
 
 u32-at-requires : tie.Need-u32-at-requires Inv-loop μ-loop
 u32-at-requires c κs = omega (arith, sound _ (c .before .before .pre .0) .four)
@@ -56,21 +57,6 @@ u32-at-requires c κs = omega (arith, sound _ (c .before .before .pre .0) .four)
 loop-holds : tie.Need-loop-holds Inv-loop μ-loop
 unfolding blockCount
 loop-holds c = (rw (c .u32-at .ensures) (search-first _ _), refl)
-
-mul-line : tie.Need-mul-line Inv-loop μ-loop
-mul-line c = omega (arith, lines c)
-
-add-line : tie.Need-add-line Inv-loop μ-loop
-add-line c = omega (arith, lines c)
-
-u32-at-requires-2 : tie.Need-u32-at-requires-2 Inv-loop μ-loop
-u32-at-requires-2 c κs = omega (arith, lines c)
-
-add-u32-at : tie.Need-add-u32-at Inv-loop μ-loop
-add-u32-at c = omega (arith, lines (c .before))
-
-u32-at-requires-3 : tie.Need-u32-at-requires-3 Inv-loop μ-loop
-u32-at-requires-3 c κs = omega (arith, lines (c .before))
 
 add-u16-at : tie.Need-add-u16-at Inv-loop μ-loop
 add-u16-at c = omega (arith, lines (c .before .before))
@@ -98,18 +84,6 @@ mul-start c =
 cast-width-of : tie.Need-cast-width-of Inv-loop μ-loop
 cast-width-of c = omega (arith, c .shared-slice-known2 .given (4 + 12 * (c .before .before .before .before .before .loop .j - 1) + 10))
 
-mul-start-2 : tie.Need-mul-start-2 Inv-loop μ-loop
-mul-start-2 c = omega (arith, room c)
-
-add-start : tie.Need-add-start Inv-loop μ-loop
-add-start c = omega (arith, room c)
-
-sub-decode : tie.Need-sub-decode Inv-loop μ-loop
-sub-decode c = omega (arith, room c)
-
-part-decode-start : tie.Need-part-decode-start Inv-loop μ-loop
-part-decode-start c = omega (arith, room c)
-
 decode-requires : tie.Need-decode-requires Inv-loop μ-loop
 decode-requires c κs =
     let b = bounds (c .before .before) in
@@ -118,15 +92,10 @@ decode-requires c κs =
 returns : tie.Need-returns Inv-loop μ-loop
 returns c =
     let d = c .before .before .before .before .before in
-    let wo = d .before .before .before in
-    let ua = wo .before .before in
-    let ua2 = ua .before .before in
-    let l = ua2 .before .before in
-    let s = l .before .before .before .before in
+    let w = d .before .before .before in
     absurd
-    (turn-whole (s .args .s .now) (s .pre .0) _ (l .loop .j) (l .loop .inv .0) (ua2 .before .loop-test .taken) _ _
-    _ (getD (s .args .s .now) (4 + 12 * (l .loop .j - 1) + 10) 0) _ (ua2 .u32-at2 .ensures)
-    (ua .before .u32-at3 .ensures) (ua .u16-at .ensures) refl (wo .width-of .ensures)
+    (turn-whole (call (b w) .args .s .now) (call (b w) .pre .0) _ (b w .before .loop .j) (b w .before .loop .inv .0) (b w .loop-test .taken)
+    _ _ _ _ _ (u2 w .u32-at2 .ensures) (u3 w .u32-at3 .ensures) (u1 w .u16-at .ensures) refl (w .width-of .ensures)
     _ (sym (d .decode .ensures .0) ∙ c .before .m .given .1))
 
 index-of-requires : tie.Need-index-of-requires Inv-loop μ-loop
@@ -138,27 +107,17 @@ returns-2 : tie.Need-returns-2 Inv-loop μ-loop
 returns-2 c =
     let io = c .before .before .before in
     let d = io .before .before .before .before .before .before in
-    let wo = d .before .before .before in
-    let ua = wo .before .before in
-    let ua2 = ua .before .before in
-    let l = ua2 .before .before in
-    let s = l .before .before .before .before in
-    turn-found (s .args .s .now) (s .pre .0) _ (l .loop .j) (l .loop .inv .0) (ua2 .before .loop-test .taken) _ _ _
-    (getD (s .args .s .now) (4 + 12 * (l .loop .j - 1) + 10) 0) _ (ua2 .u32-at2 .ensures)
-    (ua .before .u32-at3 .ensures) (ua .u16-at .ensures) refl (wo .width-of .ensures)
+    let w = d .before .before .before in
+    turn-found (call (b w) .args .s .now) (call (b w) .pre .0) _ (b w .before .loop .j) (b w .before .loop .inv .0) (b w .loop-test .taken)
+    _ _ _ _ _ (u2 w .u32-at2 .ensures) (u3 w .u32-at3 .ensures) (u1 w .u16-at .ensures) refl (w .width-of .ensures)
     _ (d .decode .ensures .1) _ (sym (io .index-of .ensures) ∙ c .before .place .given .1)
 
 loop-again : tie.Need-loop-again Inv-loop μ-loop
 loop-again c =
     let d = c .before .before .before .before .before .before .before .before in
-    let wo = d .before .before .before in
-    let ua = wo .before .before in
-    let ua2 = ua .before .before in
-    let l = ua2 .before .before in
-    let s = l .before .before .before .before in (
-      turn-on (s .args .s .now) (s .pre .0) _ (l .loop .j) (l .loop .inv .0) (ua2 .before .loop-test .taken) _ _ _
-          (getD (s .args .s .now) (4 + 12 * (l .loop .j - 1) + 10) 0) _ (ua2 .u32-at2 .ensures)
-          (ua .before .u32-at3 .ensures) (ua .u16-at .ensures) refl (wo .width-of .ensures)
+    let w = d .before .before .before in (
+      turn-on (call (b w) .args .s .now) (call (b w) .pre .0) _ (b w .before .loop .j) (b w .before .loop .inv .0) (b w .loop-test .taken)
+          _ _ _ _ _ (u2 w .u32-at2 .ensures) (u3 w .u32-at3 .ensures) (u1 w .u16-at .ensures) refl (w .width-of .ensures)
           _ (d .decode .ensures .1) (sym (c .before .before .index-of .ensures) ∙ c .enum-told2 .given .1),
       search needs,
     )
@@ -170,10 +129,11 @@ pub find-with-spec : {M : Type 1} → statement M
 find-with-spec =
     tie.close
     (tie.spec
-    Inv-loop μ-loop u32-at-requires (λ c. search needs) loop-holds (λ c. search needs) mul-line add-line
-    u32-at-requires-2 (λ c. search needs) add-u32-at u32-at-requires-3 (λ c. search needs) add-u16-at
-    u16-at-requires (λ c. search needs) add-dtype shared-slice-read-dtype mul-start cast-width-of
-    (λ c κs. search needs) mul-start-2 add-start sub-decode part-decode-start (λ c. search needs)
-    decode-requires (λ c. search needs) (λ c. search needs) returns (λ c. search needs) index-of-requires
-    (λ c. search needs) (λ c. search needs) returns-2 (λ c. search needs) (λ c. search needs)
-    (λ c. search needs) loop-again (λ c. search needs) returns-3)
+    Inv-loop μ-loop u32-at-requires (search needs) loop-holds (search needs) (λ c. omega (arith, lines c))
+    (λ c. omega (arith, lines c)) (λ c κs. omega (arith, lines c)) (search needs)
+    (λ c. omega (arith, lines (c .before))) (λ c κs. omega (arith, lines (c .before))) (search needs) add-u16-at
+    u16-at-requires (search needs) add-dtype shared-slice-read-dtype mul-start cast-width-of (search needs)
+    (λ c. omega (arith, room c)) (λ c. omega (arith, room c)) (λ c. omega (arith, room c))
+    (λ c. omega (arith, room c)) (search needs) decode-requires (search needs) (search needs) returns
+    (search needs) index-of-requires (search needs) (search needs) returns-2 (search needs) (search needs)
+    (search needs) loop-again (search needs) returns-3)

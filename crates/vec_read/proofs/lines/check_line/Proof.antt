@@ -50,6 +50,5 @@ pub check-line-spec : {M : Type 1} → statement M
 check-line-spec =
     tie.close
     (tie.spec
-    (λ c. search needs) (λ c κs. search needs) (λ c. search needs) returns returns-2 (λ c. search needs)
-    (λ c κs. search needs) (λ c. search needs) returns-3 returns-4 (λ c. search needs) (λ c. search needs)
-    cast-width-of (λ c κs. search needs) returns-5 returns-6)
+    (search needs) (search needs) (search needs) returns returns-2 (search needs) (search needs) (search needs)
+    returns-3 returns-4 (search needs) (search needs) cast-width-of (search needs) returns-5 returns-6)

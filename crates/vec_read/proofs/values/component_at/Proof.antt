@@ -37,5 +37,4 @@ pub component-at-spec : {M : Type 1} → statement M
 component-at-spec =
     tie.close
     (tie.spec
-    u32-at-requires (λ c κs. search needs) returns (λ c. search needs) (λ c κs. search needs) returns-2
-    (λ c. search needs) returns-3)
+    u32-at-requires (search needs) returns (search needs) (search needs) returns-2 (search needs) returns-3)

@@ -44,22 +44,10 @@ returns c =
 loop-holds : tie.Need-loop-holds Inv-loop μ-loop
 loop-holds c = vector-first _ _ _ _ _ _ (c .before .before .before .before .pre) _
 
-mul-from : tie.Need-mul-from Inv-loop μ-loop
-mul-from c = omega (arith, room c .row)
-
 add-from : tie.Need-add-from Inv-loop μ-loop
 add-from c =
     let wo = c .before .before .before in
     omega (arith, room c .row, bounds (wo) .most, bounds (wo) .index-in)
-
-mul-from-2 : tie.Need-mul-from-2 Inv-loop μ-loop
-mul-from-2 c = omega (arith, room c .from)
-
-add-from-2 : tie.Need-add-from-2 Inv-loop μ-loop
-add-from-2 c = omega (arith, room c .from)
-
-add-end : tie.Need-add-end Inv-loop μ-loop
-add-end c = omega (arith, room c .from)
 
 mul-to : tie.Need-mul-to Inv-loop μ-loop
 mul-to c = omega (arith, room c .to, room c .all)
@@ -117,6 +105,7 @@ pub read-vector-spec : {M : Type 1} → statement M
 read-vector-spec =
     tie.close
     (tie.spec
-    Inv-loop μ-loop (λ c κs. search needs) mul-n returns loop-holds mul-from add-from mul-from-2 add-from-2
-    add-end mul-to sub-copy part-copy-start (λ c. search needs) sub-copy-2 part-copy-start-2 part-copy-end-2
-    copy-requires (λ c. search needs) (λ c. search needs) loop-again same-length returns-2)
+    Inv-loop μ-loop (search needs) mul-n returns loop-holds (λ c. omega (arith, room c .row)) add-from
+    (λ c. omega (arith, room c .from)) (λ c. omega (arith, room c .from)) (λ c. omega (arith, room c .from))
+    mul-to sub-copy part-copy-start (search needs) sub-copy-2 part-copy-start-2 part-copy-end-2 copy-requires
+    (search needs) (search needs) loop-again same-length returns-2)

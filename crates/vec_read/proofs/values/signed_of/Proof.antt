@@ -6,14 +6,8 @@ use borrow.Author.Needs.{needs}
 use Rattle.vec_read.proofs.values.signed_of.Statement.{statement}
 use Rattle.vec_read.proofs.values.signed_of.Tie as tie
 
-cast-result : tie.Need-cast-result
-cast-result c = search needs
-
 returns : tie.Need-returns
 returns c = low-is _ (c .if1 .taken)
-
-cast-result-2 : tie.Need-cast-result-2
-cast-result-2 c = search needs
 
 sub-result : tie.Need-sub-result
 sub-result c = less-fits _ (c .if1 .left) (omega arith)
@@ -25,5 +19,4 @@ returns-2 : tie.Need-returns-2
 returns-2 c = back-is _ (c .if1 .left) (omega arith)
 
 pub signed-of-spec : {M : Type 1} → statement M
-signed-of-spec =
-    tie.close (tie.spec cast-result returns cast-result-2 sub-result cast-result-3 returns-2)
+signed-of-spec = tie.close (tie.spec (search needs) returns (search needs) sub-result cast-result-3 returns-2)

@@ -25,5 +25,4 @@ pub pad-spec : {M : Type 1} → statement M
 pad-spec =
     tie.close
     (tie.spec
-    round-up-requires sub-clear part-clear-start (λ c. search needs) (λ c κs. search needs) (λ c. search needs)
-    returns)
+    round-up-requires sub-clear part-clear-start (search needs) (search needs) (search needs) returns)

@@ -15,15 +15,14 @@ copy-requires : tie.Need-copy-requires
 copy-requires c κs = omega (arith, round64-ge (c .before .before .before .before .args .end + 4))
 
 sub-put : tie.Need-sub-put
-sub-put c = omega (arith, round64-ge (c .before .before .before .before .before .before .before .args .end + 4), c .before .before .copy .kept .0)
+sub-put c =
+    let cy = c .before .before in
+    omega (arith, round64-ge (cy .before .before .before .before .before .args .end + 4), cy .copy .kept .0)
 
 part-put-start : tie.Need-part-put-start
-part-put-start c = omega (
-  arith,
-  round64-ge (c .before .before .before .before .before .before .before .args .end
-      + 4),
-  c .before .before .copy .kept .0,
-)
+part-put-start c =
+    let cy = c .before .before in
+    omega (arith, round64-ge (cy .before .before .before .before .before .args .end + 4), cy .copy .kept .0)
 
 put-requires : tie.Need-put-requires
 put-requires c κs =
@@ -33,36 +32,24 @@ put-requires c κs =
 
 slice-reshare-prefix-checksum : tie.Need-slice-reshare-prefix-checksum
 slice-reshare-prefix-checksum c =
-    omega (
-      arith,
-      round64-ge
-          (c .before .before .before .before .before .before .before .before .before .before .before .args .end + 4),
-    )
+    let s = c .before .before .before .before .before .before .before .before .before .before .before in
+    omega (arith, round64-ge (s .args .end + 4))
 
 slice-aggregate-checksum : tie.Need-slice-aggregate-checksum
 slice-aggregate-checksum c =
-    sym (length-take-le _ _
-    (omega (
-      arith,
-      round64-ge
-          (c .before .before .before .before .before .before .before .before .before .before .before .before .args .end
-          + 4),
-    )))
+    let s = c .before .before .before .before .before .before .before .before .before .before .before .before in
+    sym (length-take-le _ _ (omega (arith, round64-ge (s .args .end + 4))))
 
 put-requires-2 : tie.Need-put-requires-2
 put-requires-2 c κs =
-    omega (
-      arith,
-      round64-ge
-          (c .before .before .before .before .before .before .before .before .before .before .before .before .before .before .args .end + 4),
-    )
+    let s = c .before .before .before .before .before .before .before .before .before .before .before .before .before .before in
+    omega (arith, round64-ge (s .args .end + 4))
 
 add-pad : tie.Need-add-pad
-add-pad c = omega (
-  arith,
-  round64-ge
-      (c .before .before .before .before .before .before .before .before .before .before .before .before .before .before .before .before .before .before .args .end + 4),
-)
+add-pad c =
+    let s =
+    c .before .before .before .before .before .before .before .before .before .before .before .before .before .before .before .before .before .before in
+    omega (arith, round64-ge (s .args .end + 4))
 
 returns : tie.Need-returns
 returns c =
@@ -80,6 +67,6 @@ pub put-block-spec : {M : Type 1} → statement M
 put-block-spec =
     tie.close
     (tie.spec
-    copy-requires sub-put part-put-start (λ c. search needs) put-requires slice-reshare-prefix-checksum
-    slice-aggregate-checksum (λ c κs. search needs) (λ c. search needs) put-requires-2 add-pad
-    (λ c κs. search needs) (λ c. search needs) returns)
+    copy-requires sub-put part-put-start (search needs) put-requires slice-reshare-prefix-checksum
+    slice-aggregate-checksum (search needs) (search needs) put-requires-2 add-pad (search needs) (search needs)
+    returns)

@@ -28,5 +28,5 @@ pub put-directory-spec : {M : Type 1} → statement M
 put-directory-spec =
     tie.close
     (tie.spec
-    (λ c κs. search needs) (λ c κs. search needs) (λ c κs. search needs) (λ c κs. search needs)
-    (λ c κs. search needs) (λ c κs. search needs) pad-requires (λ c. search needs) returns)
+    (search needs) (search needs) (search needs) (search needs) (search needs) (search needs) pad-requires
+    (search needs) returns)
