@@ -1,23 +1,22 @@
 -- What the search for a vector id promises: nothing is answered out of a segment that is not whole or not sound, and what a newer segment holds is
 -- never answered from an older one.
 -- Assumes nothing.
-use Prim.Native.Nat.{ℕ, _<_}
+use Prim.Native.Nat.{ℕ}
 use mathlib.Core.Path.{_≡_, refl, sym, ap, subst, _∙_}
 use mathlib.Core.Bool.{Bool, true, false, true≢false}
 use mathlib.Core.Option.{Option, none, some}
 use mathlib.Core.List.{List, [], _∷_, _++_}
 use native.Mathlib.Omega.{arith}
 use lib.Dec.{eqb}
-use lib.ListN.{drop}
 use borrow.Author.Tests.{eq-eqb, ne-eqb, eqb-true}
 use Rattle.segment.specs.chain.Chain.{All}
 use Rattle.octets.specs.ZeroLaws.{same-equal}
 use Rattle.segment.specs.Header.{Link, whole, contentHash}
-use Rattle.vecseg.specs.Payload.{checkOf, blockCount}
+use Rattle.vecseg.specs.Payload.{checkOf}
 use Rattle.vecseg.specs.Find.{Place, findIn, lineAt}
-use Rattle.vecseg.specs.BlockLaws.{BlockGood}
 use Rattle.vecseg.specs.CheckLaws.{sound, sound-block}
 use Rattle.reading.specs.Answers.{Hit, Held, Missing, Bad, hitOf, lookIn, orElse, searchIn}
+use Rattle.reading.specs.Read.{Good, Answered}
 
 -- ---- one segment
 
@@ -33,13 +32,6 @@ module _ (id : ℕ) (l : Link) where
   pub look-sound : whole l ≡ true → checkOf (l .payload) ≡ 0 → lookIn id l ≡ hitOf l (findIn (l .payload) id)
   unfolding lookIn
   look-sound h e = rw (h, eq-eqb (checkOf (l .payload)) 0 e)
-
--- what a segment is that is looked into: its content hash is its payload's, its payload passes the check, and so each block's
--- checksum is that of the block's bytes before it (`BlockGood`)
-pub record Good (l : Link) : Type 0 where
-  pub hash : l .hash ≡ contentHash (l .payload)
-  pub checked : checkOf (l .payload) ≡ 0
-  pub blocks : (i : ℕ) → i < blockCount (l .payload) → (k : ℕ) × BlockGood (lineAt (l .payload) i) (drop (lineAt (l .payload) i .offset) (l .payload)) k
 
 -- a segment that is not refused
 module _ (id : ℕ) (l : Link) (accepted : (n : ℕ) → lookIn id l ≡ Bad n → ⊥) where
@@ -63,22 +55,6 @@ module _ (id : ℕ) (l : Link) (accepted : (n : ℕ) → lookIn id l ≡ Bad n �
 
   finds : lookIn id l ≡ hitOf l (findIn (l .payload) id)
   finds = look-sound id l (sound-both .0) (sound-both .1)
-
--- ---- the search
-
--- a segment that was looked into, and does not hold the id
-pub record Passed (id : ℕ) (l : Link) : Type 0 where
-  pub good : Good l
-  pub missing : findIn (l .payload) id ≡ none
-
--- what is answered: the segment stands in the order behind segments that are all good and do not hold the id; it is good itself, and holds the id
-pub record Answered (id : ℕ) (ls : List Link) (l : Link) (p : Place) : Type 0 where
-  pub newer : List Link
-  pub older : List Link
-  pub split : ls ≡ newer ++ l ∷ older
-  pub passed : All (Passed id) newer
-  pub good : Good l
-  pub place : findIn (l .payload) id ≡ some p
 
 no-hit : {l : Link} {p : Place} (n : ℕ) → Held l p ≡ Bad n → ⊥
 no-hit n e = let z : _≡_ {A = ℕ} 0 1 = cc in omega arith

@@ -11,3 +11,4 @@ pub mod PartLaws
 pub mod LiveLaws
 pub mod Listing
 pub mod ListingWorked
+pub mod Read

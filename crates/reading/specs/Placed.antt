@@ -26,7 +26,8 @@ use Rattle.vecseg.specs.Payload.{vecKind}
 use Rattle.vecseg.specs.Find.{Place, findIn}
 use Rattle.reading.specs.Live.{liveOf, live, vectorsOf, searchOrder, withId}
 use Rattle.reading.specs.Answers.{Handed, NotHanded, partOf, partFound, partIn, Held, Bad, hitFound, hitIn}
-use Rattle.reading.specs.Laws.{Answered, answered, Good}
+use Rattle.reading.specs.Read.{Answered, Good}
+use Rattle.reading.specs.Laws.{answered}
 use Rattle.reading.specs.Part.{InFile}
 
 lying-in : (f : List ℕ) (l : Link) → Lying f l → InFile f l

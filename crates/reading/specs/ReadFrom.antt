@@ -10,20 +10,12 @@ use Rattle.segment.specs.chain.Chain.{Found}
 use Rattle.segment.specs.Header.{Link}
 use Rattle.manifest.specs.Opening.{opened}
 use Rattle.vecseg.specs.Find.{Place}
-use Rattle.vecseg.specs.declared.Vector.{Vector}
 use Rattle.vecseg.specs.declared.Vector.the-variants.{Read}
 use Rattle.reading.specs.Live.{searchOrder}
-use Rattle.reading.specs.Answers.{Hit, Held, Missing, Bad, hitFound, hitIn, vectorHit, vectorCase, Value, Stored, valueHit, valueIn}
-use Rattle.reading.specs.Laws.{Answered, answered}
+use Rattle.reading.specs.Answers.{Hit, Held, Missing, Bad, hitFound, hitIn, vectorHit, vectorCase, Stored, valueHit, valueIn}
+use Rattle.reading.specs.Read.{ReadFrom}
+use Rattle.reading.specs.Laws.{answered}
 use Rattle.reading.specs.Placed.{at-found}
-
--- the file opens, and in the order of its live VEC segments the search stops at this segment and place (`Answered`)
-pub record ReadFrom (f : List ℕ) (id : ℕ) : Type 0 where
-  pub found : Found Link
-  pub opens : opened f ≡ some found
-  pub link : Link
-  pub place : Place
-  pub search : Answered id (searchOrder found) link place
 
 from-hit : (f : List ℕ) (id : ℕ) (l : Link) (p : Place) → hitIn f id ≡ Held l p → ReadFrom f id
 unfolding hitIn hitFound

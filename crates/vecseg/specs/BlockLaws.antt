@@ -18,6 +18,7 @@ use Rattle.idmap.specs.Decode.{MapRead, Whole, Broken, mapOf, idsOf, mapAnswer}
 use Rattle.idmap.specs.DecodeLaws.{was-broken, was-whole}
 use Rattle.idmap.specs.Count.{whole-count}
 use Rattle.vecseg.specs.Payload.{Line, lineOf, columnsLength, filled, SoundBlock, BadBlock, blockEnd, blockMap, blockOf, blocksBad}
+use Rattle.vecseg.specs.BlockGood.{BlockGood}
 
 -- ---- the fill behind a place
 
@@ -85,15 +86,6 @@ module _ (l : Line) (s : List ℕ) where
       -- the map lies in the block
       pub block-map-fits : columnsLength l + n ≤ length s
       block-map-fits = omega (arith, whole-count (l .count) (drop (columnsLength l) s) n _ whole .1, length-drop (columnsLength l) s)
-
--- ---- what a sound block says
-
-pub record BlockGood (l : Line) (s : List ℕ) (k : ℕ) : Type 0 where
-  pub map-length : ℕ
-  pub room : columnsLength l ≤ length s
-  pub whole : mapOf (l .count) (drop (columnsLength l) s) ≡ Whole map-length (idsOf (mapOf (l .count) (drop (columnsLength l) s)))
-  pub checksum : leAt 4 s (columnsLength l + map-length) ≡ crcOf (take (columnsLength l + map-length) s)
-  pub fits : k ≤ length s
 
 end-good : (n : ℕ) (s : List ℕ) (k : ℕ) → blockEnd n s ≡ SoundBlock k → (leAt 4 s n ≡ crcOf (take n s)) × (k ≤ length s)
 unfolding blockEnd

@@ -14,7 +14,8 @@ use Rattle.answers.specs.limits.Limits.{maxBlocks}
 use Rattle.vecseg.specs.Payload.{lineOf, firstOf, linesBad, filled, BlockRead, SoundBlock, BadBlock, blockOf, blocksBad, blockCount, linesEnd, bodyBad, checkOf}
 use Rattle.vecseg.specs.LineLaws.{LineGood, LinesAt, lines-first, lines-good, lines-on, first-none, first-bad, first-zero}
 use Rattle.octets.specs.ZeroLaws.{and-split}
-use Rattle.vecseg.specs.BlockLaws.{BlockGood, block-good, block-number}
+use Rattle.vecseg.specs.BlockGood.{BlockGood}
+use Rattle.vecseg.specs.BlockLaws.{block-good, block-number}
 
 -- ---- the ways out
 

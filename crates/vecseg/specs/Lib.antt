@@ -10,3 +10,4 @@ pub mod Component
 pub mod Laid
 pub mod Vector
 pub mod WriterLaws
+pub mod BlockGood

@@ -5,9 +5,9 @@ use Prim.Native.Nat.{ℕ, _+_, _^_, _≤_, _<_}
 use mathlib.Core.Path.{_≡_, refl, sym, ap, _∙_}
 use mathlib.Core.Bool.{true}
 use mathlib.Core.Option.{Option, none}
-use mathlib.Core.List.{List, [], _∷_, _++_}
+use mathlib.Core.List.{List, [], _∷_}
 use native.Mathlib.Omega.{arith}
-use lib.ListN.{length, take, replicate}
+use lib.ListN.{length, take}
 use lib.Seq.{length-take-le}
 use Rattle.octets.specs.Round.{round64}
 use Rattle.octets.specs.Zero.{allZero}
@@ -25,13 +25,7 @@ use Rattle.appending.specs.Append.{keptLinks, startOf, nextId, oldLinks, oldSta
 use Rattle.appending.specs.Accepts.{Fits, accepts}
 use Rattle.appending.specs.Opens.{fileWith}
 use Rattle.appending.specs.Buffer.{Appended, appended, file-is, next-start, next-next, next-count}
-
--- a batch of no bodies, and one of a META body of 100 bytes
-abbrev pub noBodies : List ℕ
-noBodies = replicate 16 0
-
-abbrev pub oneBody : List ℕ → List ℕ
-oneBody body = (1 ∷ 0 ∷ 0 ∷ 0 ∷ []) ++ (replicate 12 0 ++ ((7 ∷ 0 ∷ 0 ∷ 0 ∷ 32 ∷ 0 ∷ 0 ∷ 0 ∷ 100 ∷ 0 ∷ 0 ∷ 0 ∷ 0 ∷ 0 ∷ 0 ∷ 0 ∷ []) ++ body))
+use Rattle.worked.specs.Batches.{noBodies, oneBody}
 
 -- to unfold this is to unfold what the line names
 open-batch : Unit {0}

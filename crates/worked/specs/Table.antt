@@ -1,20 +1,18 @@
 -- The cases that document 01 marks (P) under 'Worked numbers': one table, and one statement that all its lines hold. Each layer adds its lines here.
 -- Assumes nothing.
 use Prim.Native.Nat.{ℕ, _-_, _^_, _≤_, _<_}
-use mathlib.Core.Path.{_≡_, refl}
+use mathlib.Core.Path.{_≡_}
 use mathlib.Core.Option.{none}
 use mathlib.Core.List.{List, [], _∷_, _++_}
 use lib.ListN.{length, take, replicate}
 use Rattle.answers.specs.Answer.{Accepted, Refusal}
-use Rattle.octets.specs.le.Le.{leBytes}
 use Rattle.varint.specs.declared.Varint.the-variants.{Refused}
-use Rattle.varint.specs.Varint.{leb128, varintOf, more, decode, below64, readVarint}
-use Rattle.idmap.specs.Encode.{mapHead, deltaOf, leftAfter, deltas, restartOf, restarts, intervalOf, mapBytes}
-use Rattle.segment.specs.chain.Chain.{walk, walkF, scan, lastConfirmed, openOf}
+use Rattle.varint.specs.Varint.{varintOf, readVarint}
+use Rattle.idmap.specs.Encode.{mapBytes}
 use Rattle.batch.specs.Form.{bodiesOf}
 use Rattle.appending.specs.Append.{manifestAt, appendAnswer, Appends}
-use Rattle.worked.specs.Ends.{noBodies, oneBody, empty-end, manifest-place, body-end, then-empty}
-use Rattle.manifest.specs.Opening.{opened, tried, atOpened, foundCase, openedCase, openedAnswer, openAnswer}
+use Rattle.worked.specs.Batches.{noBodies, oneBody}
+use Rattle.manifest.specs.Opening.{openAnswer}
 
 -- the list of document 002's delta example
 abbrev example : List ℕ
@@ -43,27 +41,3 @@ pub record Table : Type 0 where
   -- an empty batch after it: end 8,704
   pub then-batch : (body : List ℕ) → length body ≡ 100 → (ts : ℕ) → ts < 2 ^ 64 → (old new vs : List ℕ) → Appends old 0 (oneBody body) [] ts (Accepted vs) new
       → (old₂ : List ℕ) → 8704 ≤ length old₂ → take 4416 old₂ ≡ take 4416 new → appendAnswer old₂ 4416 noBodies [] ≡ Accepted (8704 ∷ 2 ∷ 2 ∷ [])
-
--- to unfold this is to unfold what the line names
-open-all : Unit {0}
-unfolding leb128 varintOf more decode below64 readVarint leBytes mapHead deltaOf leftAfter deltas restartOf restarts intervalOf mapBytes openAnswer openedCase openedAnswer foundCase atOpened opened tried openOf lastConfirmed scan walk walkF
-open-all = tt
-
-pub table : Table
-unfolding open-all
-table =
-    record {
-      zero-is = refl;
-      v127-is = refl;
-      v128-is = refl;
-      v16384-is = refl;
-      largest-is = refl;
-      not-shortest = refl;
-      interval-64 = refl;
-      interval-2 = refl;
-      nothing-opened = refl;
-      empty-batch = empty-end;
-      body-place = manifest-place;
-      body-batch = body-end;
-      then-batch = then-empty;
-    }

@@ -2,7 +2,7 @@
 -- Assumes nothing.
 use mathlib.Core.Option.{none}
 use Rattle.octets.specs.le.Le.{Bytes}
-use Rattle.opening.specs.Indexed.{ManifestAt}
+use Rattle.opening.specs.Indexed.{ManifestAt, opened-refused, opened-none, opened-at, opened-end, manifest-room}
 use Prim.Native.Nat.{ℕ}
 use mathlib.Core.Path.{_≡_, refl, sym, ap, _∙_}
 use native.Mathlib.Omega.{arith}
@@ -11,7 +11,6 @@ use lib.Seq.{length-take-le}
 use borrow.Author.Tests.{not-true, not-false}
 use Rattle.octets.specs.le.Laws.{bytes-take}
 use Rattle.manifest.specs.Opening.{opened}
-use Rattle.opening.specs.Indexed.{opened-refused, opened-none, opened-at, opened-end, manifest-room}
 use Rattle.append.specs.Ways.{way-room, way-limit, way-none, way-batch, taken-held, way-retire, way-done}
 use Rattle.append.specs.Begins.{base-empty, states-empty, retire-none, retire-some, front-opens, base-later, states-later}
 use borrow.Author.Needs.{needs}

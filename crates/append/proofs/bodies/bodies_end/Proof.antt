@@ -1,14 +1,13 @@
 -- `append_write::bodies_end` meets its contract, by where the loop over the bodies stands.
 -- Assumes nothing.
 use lib.ListN.{length}
-use Rattle.batch.specs.Lines.{BodyAt}
+use Rattle.batch.specs.Lines.{BodyAt, noBody, bodies-count, count-is, held-bounds, body-at}
 use Prim.Native.Nat.{_-_, _<_}
 use mathlib.Core.Path.{sym, ap, _∙_}
 use native.Mathlib.Omega.{arith}
 use Rattle.octets.specs.Round.{round64}
 use Rattle.octets.specs.RoundLaws.{round64-lt}
 use Rattle.batch.specs.Form.{bodiesOf}
-use Rattle.batch.specs.Lines.{noBody, bodies-count, count-is, held-bounds, body-at}
 use Rattle.append.specs.bodies.Bodies.{EndAt, end-first, end-next, end-last}
 use borrow.Author.Needs.{needs}
 use Rattle.append.proofs.bodies.bodies_end.Statement.{statement}

@@ -1,8 +1,7 @@
 -- `batch_vectors::body_bad` meets its contract, by what a batch that has the form says of a body.
 -- Assumes nothing.
-use Rattle.batch.specs.Lines.{BodyAt}
+use Rattle.batch.specs.Lines.{BodyAt, body-at}
 use native.Mathlib.Omega.{arith}
-use Rattle.batch.specs.Lines.{body-at}
 use Rattle.append.specs.vectors.Vectors.{body-other, body-checked}
 use borrow.Author.Needs.{needs}
 use Rattle.append.proofs.vectors.body_bad.Statement.{statement}

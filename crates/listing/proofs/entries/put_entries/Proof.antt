@@ -1,10 +1,9 @@
 -- `list_entries::put_entries` meets its contract, by how many entries are written.
 -- Assumes nothing.
-use Rattle.opening.specs.Indexed.{EntryAt}
+use Rattle.opening.specs.Indexed.{EntryAt, entry-at}
 use Prim.Native.Nat.{_-_}
 use native.Mathlib.Omega.{arith}
 use Rattle.octets.specs.text.Written.{same-room}
-use Rattle.opening.specs.Indexed.{entry-at}
 use Rattle.listing.specs.entries.Entries.{EntriesAt, entries-first, entries-next, entries-last}
 use Rattle.listing.proofs.entries.put_entries.Statement.{statement}
 use Rattle.listing.proofs.entries.put_entries.Tie as tie

@@ -1,11 +1,10 @@
 -- `locate::search` meets its contract, by where the search through the directory stands.
 -- Assumes nothing.
-use Rattle.opening.specs.Indexed.{EntryAt}
+use Rattle.opening.specs.Indexed.{EntryAt, entry-at}
 use Prim.Native.Nat.{ℕ, _-_}
 use mathlib.Core.Path.{_≡_, sym, _∙_}
 use native.Mathlib.Omega.{arith}
 use lib.ListN.{length}
-use Rattle.opening.specs.Indexed.{entry-at}
 use Rattle.lookup.specs.in_segment.Located.{SearchAt, search-first, search-last, search-retired, search-other, search-on, search-stop}
 use borrow.Author.Needs.{needs}
 use Rattle.lookup.proofs.in_file.search.Statement.{statement}

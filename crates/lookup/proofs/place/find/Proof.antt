@@ -1,11 +1,10 @@
 -- `locate_payload::find` meets its contract, by where the search through the directory stands.
 -- Assumes nothing.
-use Rattle.opening.specs.Indexed.{EntryAt}
+use Rattle.opening.specs.Indexed.{EntryAt, entry-at}
 use Prim.Native.Nat.{_-_}
 use mathlib.Core.Path.{sym, _∙_}
 use native.Mathlib.Omega.{arith}
 use borrow.Author.Tests.{not-true, not-false}
-use Rattle.opening.specs.Indexed.{entry-at}
 use Rattle.lookup.specs.place.Find.{FindAt, find-first, find-last, find-other, find-retired, find-torn, find-whole}
 use borrow.Author.Needs.{needs}
 use Rattle.lookup.proofs.place.find.Statement.{statement}

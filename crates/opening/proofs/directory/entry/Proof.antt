@@ -1,10 +1,9 @@
 -- `directory::entry` meets its contract, by its ways out.
 -- Assumes nothing.
-use Rattle.opening.specs.Indexed.{ManifestAt, EntryAt}
+use Rattle.opening.specs.Indexed.{ManifestAt, EntryAt, opened-refused, opened-none, opened-at, entry-at}
 use mathlib.Core.Path.{sym, _∙_}
 use native.Mathlib.Omega.{arith}
 use Rattle.opening.specs.directory.Entry.{entry-long, entry-none}
-use Rattle.opening.specs.Indexed.{opened-refused, opened-none, opened-at, entry-at}
 use Rattle.opening.specs.directory.EntryLaws.{entry-past, entry-is}
 use borrow.Author.Needs.{needs}
 use Rattle.opening.proofs.directory.entry.Statement.{statement}
