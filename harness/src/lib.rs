@@ -6,6 +6,7 @@ pub mod calls;
 #[cfg(feature = "linked")]
 pub mod ffi;
 pub mod gen;
+pub mod house;
 pub mod model;
 pub mod reference;
 pub mod runner;

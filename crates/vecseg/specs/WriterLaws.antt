@@ -1,6 +1,5 @@
 -- What is known of an input that the vector writer accepts.
 -- Assumes nothing.
-use Rattle.idmap_write.specs.refusal.Ways as map
 use Prim.Native.Nat.{ℕ, _*_, _≤_, _<_}
 use mathlib.Core.Path.{_≡_, refl}
 use mathlib.Core.List.{List}
