@@ -1,5 +1,5 @@
-// The bodies of a batch written as segments, and where they end. The part of the buffer from a segment's place on is handed to the writer of
-// segments.
+// The bodies of a batch written as segments, and where they end. The part of the buffer from a segment's place on is
+// handed to the writer of segments.
 ghost use mathlib.Core.Path.{_≡_};
 ghost use mathlib.Core.Bool.{true};
 ghost use Prim.Native.Nat.{_+_, _≤_, _<_, _^_};
@@ -26,7 +26,8 @@ pub fn bodies_end(batch: &[u8], start: usize) -> usize
     at
 }
 
-// The bodies of a batch as segments from a place on, with ids that go on from the first; and where each begins, behind the first `kept` offsets.
+// The bodies of a batch as segments from a place on, with ids that go on from the first; and where each begins,
+// behind the first `kept` offsets.
 pub fn put_bodies(
     buf: &mut [u8],
     batch: &[u8],
@@ -37,9 +38,12 @@ pub fn put_bodies(
     kept: usize,
 )
     requires { ⌜ (batchHeld (now batch) ≡ true) × (bodiesEnd start (bodiesOf (now batch)) ≤ length (now buf)) ⌝ }
-    requires { ⌜ («first_id» + bodyCount (now batch) < 2 ^ 64) × (kept + bodyCount (now batch) ≤ length (now offsets)) ⌝ }
-    ensures { λ _. ⌜ now (buf .exit) ≡ over (now (buf .entry)) start (bodyBytes «first_id» timestamp (bodiesOf (now (batch .entry)))) ⌝ }
-    ensures { λ _. ⌜ now (offsets .exit) ≡ over (now (offsets .entry)) kept (offsetsOf (bodyLinks start «first_id» timestamp (bodiesOf (now (batch .entry))))) ⌝ }
+    requires { ⌜ («first_id» + bodyCount (now batch) < 2 ^ 64)
+        × (kept + bodyCount (now batch) ≤ length (now offsets)) ⌝ }
+    ensures { λ _. ⌜ now (buf .exit) ≡ over (now (buf .entry)) start
+        (bodyBytes «first_id» timestamp (bodiesOf (now (batch .entry)))) ⌝ }
+    ensures { λ _. ⌜ now (offsets .exit) ≡ over (now (offsets .entry)) kept
+        (offsetsOf (bodyLinks start «first_id» timestamp (bodiesOf (now (batch .entry))))) ⌝ }
 {
     let m = octets::le::u32_at(batch, 0) as usize;
     let mut at = start;

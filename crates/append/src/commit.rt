@@ -35,8 +35,8 @@ fn next_id(first: bool, last: u64) -> u64
     last + 1
 }
 
-// The rest of an append, behind the tests of the file, the batch and the ids: 12, 13, 1, 9; then all is written. The file is what is kept, the bytes
-// up to the start.
+// The rest of an append, behind the tests of the file, the batch and the ids: 12, 13, 1, 9; then all is written. The
+// file is what is kept, the bytes up to the start.
 pub fn finish(
     buf: &mut [u8],
     batch: &[u8],
@@ -48,10 +48,13 @@ pub fn finish(
     offsets: &mut [u64],
     states: &[u8],
 ) -> Appended
-    requires { ⌜ (batchHeld (now batch) ≡ true) × ((length (now offsets) ≡ most) × (length (now states) ≡ maxEntries)) ⌝ }
+    requires { ⌜ (batchHeld (now batch) ≡ true) × ((length (now offsets) ≡ most)
+        × (length (now states) ≡ maxEntries)) ⌝ }
     requires { ⌜ Base (take start (now buf)) (now offsets) start kept first last ⌝ }
-    ensures { λ r. ⌜ appendedAnswer r ≡ lateAnswer (length (now (buf .entry))) (opened (take start (now (buf .entry)))) (bodiesOf (now (batch .entry))) ⌝ }
-    ensures { λ _. ⌜ now (buf .exit) ≡ lateBuffer (opened (take start (now (buf .entry)))) (now (buf .entry)) (bodiesOf (now (batch .entry))) (now (states .entry)) timestamp ⌝ }
+    ensures { λ r. ⌜ appendedAnswer r ≡ lateAnswer (length (now (buf .entry)))
+        (opened (take start (now (buf .entry)))) (bodiesOf (now (batch .entry))) ⌝ }
+    ensures { λ _. ⌜ now (buf .exit) ≡ lateBuffer (opened (take start (now (buf .entry)))) (now (buf .entry))
+        (bodiesOf (now (batch .entry))) (now (states .entry)) timestamp ⌝ }
 {
     let m = octets::le::u32_at(batch, 0) as usize;
     let count = kept + m;
@@ -63,7 +66,12 @@ pub fn finish(
     }
     let next = next_id(first, last);
     let at = crate::bodies::bodies_end(batch, start);
-    let end = at + 64 + octets::round_up(octets::round_up(manifest::fields::RECORD_HEAD + manifest::fields::ENTRY_SIZE * count) + manifest::fields::ROOT_SIZE);
+    let end = at
+        + 64
+        + octets::round_up(
+            octets::round_up(manifest::fields::RECORD_HEAD + manifest::fields::ENTRY_SIZE * count)
+                + manifest::fields::ROOT_SIZE,
+        );
     if end > answers::limits::MAX_FILE {
         return Appended::Refused(1);
     }

@@ -4,7 +4,8 @@ ghost use Prim.Native.Nat.{_<_};
 ghost use lib.ListN.{length};
 ghost use Rattle.batch.specs.Form.{lineHeld, batchHeld};
 
-// Whether a line of a batch has the form, where its body is to begin at `at`. A manifest is no body: an append writes it itself.
+// Whether a line of a batch has the form, where its body is to begin at `at`. A manifest is no body: an append writes
+// it itself.
 fn line_held(line: &[u8], at: usize) -> bool
     requires { ⌜ length (now line) ≡ 16 ⌝ }
     ensures { λ r. ⌜ r ≡ lineHeld at (now (line .entry)) ⌝ }

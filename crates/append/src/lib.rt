@@ -1,10 +1,12 @@
-// Appending a batch to a file. Every test is made before the first byte is written: a refusal leaves the buffer as it was.
+// Appending a batch to a file. Every test is made before the first byte is written: a refusal leaves the buffer as it
+// was.
 pub mod bodies;
 pub mod commit;
 pub mod form;
 pub mod new_manifest;
 pub mod retire;
 pub mod vectors;
+
 ghost use mathlib.Core.Path.{_≡_};
 ghost use mathlib.Core.Bool.{true, not};
 ghost use mathlib.Core.List.{_++_};
@@ -23,7 +25,8 @@ ghost use Rattle.answers.specs.limits.Limits.{maxEntries};
 use appending::Appended;
 use manifest::Opened;
 
-// The number that a batch is refused with: 10 for its form, then that of its first bad vector body; 0 where it is taken.
+// The number that a batch is refused with: 10 for its form, then that of its first bad vector body; 0 where it is
+// taken.
 fn batch_number(batch: &[u8]) -> u32
     ensures { λ r. ⌜ r ≡ batchNumber (now (batch .entry)) ⌝ }
 {
@@ -37,8 +40,10 @@ fn batch_number(batch: &[u8]) -> u32
 fn read_entries(file: &[u8], offsets: &[u64], entry_ids: &mut [u64], kinds: &mut [u8])
     requires { ⌜ (length (now offsets) ≤ length (now «entry_ids»)) × (length (now offsets) ≤ length (now kinds)) ⌝ }
     requires { ⌜ Inside (now file) (now offsets) ⌝ }
-    ensures { λ _. ⌜ now («entry_ids» .exit) ≡ over (now («entry_ids» .entry)) 0 (idsAt (now (file .entry)) (now (offsets .entry))) ⌝ }
-    ensures { λ _. ⌜ now (kinds .exit) ≡ over (now (kinds .entry)) 0 (kindsAt (now (file .entry)) (now (offsets .entry))) ⌝ }
+    ensures { λ _. ⌜ now («entry_ids» .exit) ≡ over (now («entry_ids» .entry)) 0
+        (idsAt (now (file .entry)) (now (offsets .entry))) ⌝ }
+    ensures { λ _. ⌜ now (kinds .exit) ≡ over (now (kinds .entry)) 0
+        (kindsAt (now (file .entry)) (now (offsets .entry))) ⌝ }
 {
     let mut i: usize = 0;
     while i < offsets.len() {
@@ -61,8 +66,10 @@ fn retire_states(
     requires { ⌜ (most ≤ length (now offsets)) × (now states ≡ replicate maxEntries 0) ⌝ }
     requires { ⌜ Indexed (now file) (now offsets) ⌝ }
     requires { ⌜ ManifestAt (now file) manifest count ⌝ }
-    ensures { λ r. ⌜ r ≡ retireHeld (oldLinks (opened (now (file .entry)))) (oldStates (opened (now (file .entry)))) (now (ids .entry)) ⌝ }
-    ensures { λ r. ⌜ (r ≡ true → now (states .exit) ≡ retired (oldLinks (opened (now (file .entry)))) (oldStates (opened (now (file .entry)))) (now (ids .entry)) ++ replicate (maxEntries - count) 0) ⌝ }
+    ensures { λ r. ⌜ r ≡ retireHeld (oldLinks (opened (now (file .entry)))) (oldStates (opened (now (file .entry))))
+        (now (ids .entry)) ⌝ }
+    ensures { λ r. ⌜ (r ≡ true → now (states .exit) ≡ retired (oldLinks (opened (now (file .entry))))
+        (oldStates (opened (now (file .entry)))) (now (ids .entry)) ++ replicate (maxEntries - count) 0) ⌝ }
 {
     let body = manifest + 64;
     let end = body + octets::le::u64_at(file, manifest + segment::fields::LENGTH) as usize;
@@ -78,11 +85,12 @@ fn retire_states(
     )
 }
 
-// A batch appended to the file that is the first n bytes of a buffer, some ids retired. In order: n above the buffer 9, n above the limit 1, no manifest
-// in a file that is not empty 2, the batch's form 10, its vector bodies 5, 6, 7, retirement 11, entries 12, ids 13, the new end above the limit 1 or
-// the buffer 9.
+// A batch appended to the file that is the first n bytes of a buffer, some ids retired. In order: n above the buffer
+// 9, n above the limit 1, no manifest in a file that is not empty 2, the batch's form 10, its vector bodies 5, 6, 7,
+// retirement 11, entries 12, ids 13, the new end above the limit 1 or the buffer 9.
 pub fn append(buf: &mut [u8], n: u64, batch: &[u8], ids: &[u64], timestamp: u64) -> Appended
-    ensures { λ r. ⌜ Appends (now (buf .entry)) n (now (batch .entry)) (now (ids .entry)) timestamp (appendedAnswer r) (now (buf .exit)) ⌝ }
+    ensures { λ r. ⌜ Appends (now (buf .entry)) n (now (batch .entry)) (now (ids .entry)) timestamp (appendedAnswer r)
+        (now (buf .exit)) ⌝ }
 {
     if n > buf.len() as u64 {
         return Appended::Refused(9);

@@ -1,5 +1,6 @@
-// A batch appended to the file that is the first n bytes of a buffer, the new file cut k bytes behind where the append started, and a vector read out
-// of what is left. It is promised by the file before the append alone: that a cut batch changes no answer is the claim about every list of appends.
+// A batch appended to the file that is the first n bytes of a buffer, the new file cut k bytes behind where the
+// append started, and a vector read out of what is left. It is promised by the file before the append alone: that a
+// cut batch changes no answer is the claim about every list of appends.
 ghost use mathlib.Core.Path.{_≡_};
 ghost use Prim.Native.Nat.{_≤_};
 ghost use lib.ListN.{length};
@@ -47,8 +48,10 @@ pub fn append_and_cut(
     id: u64,
     out: &mut [u8],
 ) -> CutRead
-    ensures { λ r. ⌜ CutReadPromise (now (buf .entry)) n (now (batch .entry)) (now (ids .entry)) k id (now (out .entry)) (now (out .exit)) r ⌝ }
-    ensures { λ _. ⌜ now (buf .exit) ≡ appendBuffer (now (buf .entry)) n (now (batch .entry)) (now (ids .entry)) timestamp ⌝ }
+    ensures { λ r. ⌜ CutReadPromise (now (buf .entry)) n (now (batch .entry)) (now (ids .entry)) k id
+        (now (out .entry)) (now (out .exit)) r ⌝ }
+    ensures { λ _. ⌜ now (buf .exit) ≡ appendBuffer (now (buf .entry)) n (now (batch .entry))
+        (now (ids .entry)) timestamp ⌝ }
 {
     if n > buf.len() as u64 {
         return CutRead::NotAppended(9);

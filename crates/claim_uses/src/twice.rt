@@ -1,12 +1,12 @@
-// Two batches appended to an empty file, the second with some ids retired, and the file opened. What opening answers is promised by the
-// model alone: that the two agree is the claim about every list of appends.
+// Two batches appended to an empty file, the second with some ids retired, and the file opened. What opening answers
+// is promised by the model alone: that the two agree is the claim about every list of appends.
 ghost use mathlib.Core.Path.{_≡_};
 ghost use Rattle.claim_uses.specs.twice.Twice.{TwicePromise, twiceBuffer};
 use appending::Appended;
 use manifest::Opened;
 
-// What opening answers at the end: the manifest's offset, end and id and the number of its entries; or no manifest; or the number by
-// which an append refused.
+// What opening answers at the end: the manifest's offset, end and id and the number of its entries; or no manifest;
+// or the number by which an append refused.
 pub enum Twice {
     At {
         offset: usize,
@@ -18,8 +18,8 @@ pub enum Twice {
     Refused(u32),
 }
 
-// The file after the two appends, opened. Where an append refuses, its number; what opening answers else is the model's, and never that there is no
-// manifest.
+// The file after the two appends, opened. Where an append refuses, its number; what opening answers else is the
+// model's, and never that there is no manifest.
 pub fn append_twice(
     buf: &mut [u8],
     first: &[u8],
@@ -27,8 +27,10 @@ pub fn append_twice(
     retire: &[u64],
     timestamp: u64,
 ) -> Twice
-    ensures { λ r. ⌜ TwicePromise (now (buf .entry)) (now (first .entry)) (now (second .entry)) (now (retire .entry)) timestamp r ⌝ }
-    ensures { λ _. ⌜ now (buf .exit) ≡ twiceBuffer (now (buf .entry)) (now (first .entry)) (now (second .entry)) (now (retire .entry)) timestamp ⌝ }
+    ensures { λ r. ⌜ TwicePromise (now (buf .entry)) (now (first .entry)) (now (second .entry))
+        (now (retire .entry)) timestamp r ⌝ }
+    ensures { λ _. ⌜ now (buf .exit) ≡ twiceBuffer (now (buf .entry)) (now (first .entry)) (now (second .entry))
+        (now (retire .entry)) timestamp ⌝ }
 {
     let a = append::append(buf, 0, first, &retire[..0], timestamp);
     match a {

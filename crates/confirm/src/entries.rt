@@ -1,4 +1,5 @@
-// A manifest's entries, written from the file's own headers: an entry is copied from the header that stands at the link's place.
+// A manifest's entries, written from the file's own headers: an entry is copied from the header that stands at the
+// link's place.
 ghost use mathlib.Core.Path.{_≡_};
 ghost use mathlib.Core.List.{[], _∷_};
 ghost use Prim.Native.Nat.{_+_, _*_, _≤_, _<_};
@@ -31,25 +32,51 @@ pub fn put_entry(buf: &mut [u8], at: usize, file: &[u8], offset: usize, state: u
 {
     let kind = file[offset + segment::fields::KIND];
     octets::le::put(buf, at, 8, offset as u64);
-    copy_at(buf, at + manifest::fields::ID, file, offset + segment::fields::ID, 16);
-    copy_at(buf, at + manifest::fields::HASH, file, offset + segment::fields::HASH, 16);
+    copy_at(
+        buf,
+        at + manifest::fields::ID,
+        file,
+        offset + segment::fields::ID,
+        16,
+    );
+    copy_at(
+        buf,
+        at + manifest::fields::HASH,
+        file,
+        offset + segment::fields::HASH,
+        16,
+    );
     put_byte(buf, at + manifest::fields::ENTRY_KIND, kind);
     put_byte(buf, at + manifest::fields::STATE, state);
-    copy_at(buf, at + manifest::fields::FLAGS, file, offset + segment::fields::FLAGS, 2);
+    copy_at(
+        buf,
+        at + manifest::fields::FLAGS,
+        file,
+        offset + segment::fields::FLAGS,
+        2,
+    );
     octets::le::put(buf, at + manifest::fields::ZEROS, 4, 0);
 }
 
 // The entries of the links at some offsets, right behind the record's eight bytes.
 pub fn put_entries(buf: &mut [u8], file: &[u8], offsets: &[u64], states: &[u8])
-    requires { ⌜ (entriesEnd (length (now offsets)) ≤ length (now buf)) × (length (now offsets) ≤ length (now states)) ⌝ }
+    requires { ⌜ (entriesEnd (length (now offsets)) ≤ length (now buf))
+        × (length (now offsets) ≤ length (now states)) ⌝ }
     requires { ⌜ Inside (now file) (now offsets) ⌝ }
-    ensures { λ _. ⌜ now (buf .exit) ≡ over (now (buf .entry)) 8 (entriesAt (now (file .entry)) (now (offsets .entry)) (now (states .entry))) ⌝ }
+    ensures { λ _. ⌜ now (buf .exit) ≡ over (now (buf .entry)) 8
+        (entriesAt (now (file .entry)) (now (offsets .entry)) (now (states .entry))) ⌝ }
 {
     let mut i: usize = 0;
     while i < offsets.len() {
         let offset = offsets[i];
         let state = states[i];
-        put_entry(buf, manifest::fields::RECORD_HEAD + manifest::fields::ENTRY_SIZE * i, file, offset as usize, state);
+        put_entry(
+            buf,
+            manifest::fields::RECORD_HEAD + manifest::fields::ENTRY_SIZE * i,
+            file,
+            offset as usize,
+            state,
+        );
         i += 1;
     }
 }

@@ -1,8 +1,10 @@
-// Whether a link is a confirmed manifest. Its payload is written anew from the headers of the links before it, with the states that it says, and
-// compared. Cheap tests come first: a file with many links of type 0x05 costs a test of the length for most of them.
+// Whether a link is a confirmed manifest. Its payload is written anew from the headers of the links before it, with
+// the states that it says, and compared. Cheap tests come first: a file with many links of type 0x05 costs a test of
+// the length for most of them.
 pub mod entries;
 pub mod payload;
 pub mod states;
+
 ghost use mathlib.Core.Path.{_≡_};
 ghost use Prim.Native.Nat.{_+_, _*_, _≤_};
 ghost use lib.ListN.{length, take};
@@ -29,7 +31,8 @@ fn states_held(file: &[u8], offsets: &[u64], states: &[u8]) -> bool
     true
 }
 
-// The test of a link of type 0x05 whose payload has the length that it must have, with room for the states and the payload written anew.
+// The test of a link of type 0x05 whose payload has the length that it must have, with room for the states and the
+// payload written anew.
 fn confirm_with(
     file: &[u8],
     offsets: &[u64],
@@ -59,7 +62,8 @@ fn confirm_with(
     octets::same(&file[body..end], &buf[..len])
 }
 
-// Whether the link at a place is confirmed, where the n links before it stand at the first n offsets, and its header says this length, type and id.
+// Whether the link at a place is confirmed, where the n links before it stand at the first n offsets, and its header
+// says this length, type and id.
 pub fn is_confirmed(
     file: &[u8],
     offsets: &[u64],
@@ -79,7 +83,10 @@ pub fn is_confirmed(
     if n > answers::limits::MAX_ENTRIES {
         return false;
     }
-    if len != octets::round_up(manifest::fields::RECORD_HEAD + manifest::fields::ENTRY_SIZE * n) + manifest::fields::ROOT_SIZE {
+    if len
+        != octets::round_up(manifest::fields::RECORD_HEAD + manifest::fields::ENTRY_SIZE * n)
+            + manifest::fields::ROOT_SIZE
+    {
         return false;
     }
     let mut states = [0u8; answers::limits::MAX_ENTRIES];

@@ -34,7 +34,11 @@ pub fn put_root(buf: &mut [u8], c: usize, offset: u64, id: u64)
     octets::le::put(buf, manifest::fields::ROOT_ID, 8, id);
     octets::le::put(buf, manifest::fields::ROOT_RECORD, 8, long as u64);
     octets::le::put(buf, manifest::fields::ROOT_END, 8, end);
-    clear_part(buf, manifest::fields::ROOT_ZEROS, manifest::fields::ROOT_CHECKSUM);
+    clear_part(
+        buf,
+        manifest::fields::ROOT_ZEROS,
+        manifest::fields::ROOT_CHECKSUM,
+    );
     let crc = crc32c::checksum(&buf[..manifest::fields::ROOT_CHECKSUM]);
     octets::le::put(buf, manifest::fields::ROOT_CHECKSUM, 4, crc as u64);
 }
@@ -48,11 +52,13 @@ pub fn put_payload(
     offset: u64,
     id: u64,
 ) -> usize
-    requires { ⌜ (payloadLength (length (now offsets)) ≤ length (now buf)) × (length (now offsets) ≤ length (now states)) ⌝ }
+    requires { ⌜ (payloadLength (length (now offsets)) ≤ length (now buf))
+        × (length (now offsets) ≤ length (now states)) ⌝ }
     requires { ⌜ Inside (now file) (now offsets) ⌝ }
     requires { ⌜ offset + 64 + round64 (payloadLength (length (now offsets))) < 2 ^ 64 ⌝ }
     ensures { λ r. ⌜ r ≡ payloadLength (length (now (offsets .entry))) ⌝ }
-    ensures { λ _. ⌜ now (buf .exit) ≡ over (now (buf .entry)) 0 (payloadAt (now (file .entry)) (now (offsets .entry)) (now (states .entry)) offset id) ⌝ }
+    ensures { λ _. ⌜ now (buf .exit) ≡ over (now (buf .entry)) 0
+        (payloadAt (now (file .entry)) (now (offsets .entry)) (now (states .entry)) offset id) ⌝ }
 {
     let c = offsets.len();
     let long = manifest::fields::ENTRY_SIZE * c;

@@ -23,7 +23,9 @@ pub fn read_states(states: &mut [u8], payload: &[u8], n: usize)
 {
     let mut i: usize = 0;
     while i < n {
-        states[i] = payload[manifest::fields::RECORD_HEAD + manifest::fields::ENTRY_SIZE * i + manifest::fields::STATE];
+        states[i] = payload[manifest::fields::RECORD_HEAD
+            + manifest::fields::ENTRY_SIZE * i
+            + manifest::fields::STATE];
         i += 1;
     }
 }

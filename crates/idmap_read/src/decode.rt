@@ -1,4 +1,5 @@
-// An id map taken apart: how long it is, and its ids into a list that has room for them. Every rule that a map breaks is 5.
+// An id map taken apart: how long it is, and its ids into a list that has room for them. Every rule that a map breaks
+// is 5.
 ghost use mathlib.Core.Path.{_≡_};
 ghost use Prim.Native.Nat.{_+_, _≤_, _<_};
 ghost use lib.ListN.{length};

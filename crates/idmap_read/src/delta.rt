@@ -17,7 +17,8 @@ pub enum NextId {
     Refused(u32),
 }
 
-// The id that a varint gives: the first of a group stands where its restart offset says and is absolute, the others are differences.
+// The id that a varint gives: the first of a group stands where its restart offset says and is absolute, the others
+// are differences.
 fn next_id(
     s: &[u8],
     i: usize,

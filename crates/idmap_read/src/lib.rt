@@ -1,6 +1,8 @@
-// The id-map reader: the map's length, and its ids at the front of a lent list. Every rule of a map is 5, then a list too short for the ids 9.
+// The id-map reader: the map's length, and its ids at the front of a lent list. Every rule of a map is 5, then a list
+// too short for the ids 9.
 pub mod decode;
 pub mod delta;
+
 ghost use mathlib.Core.Path.{_≡_};
 ghost use Prim.Native.Nat.{_≤_};
 ghost use lib.ListN.{length, take};
@@ -21,7 +23,8 @@ fn copy_ids(ids: &mut [u64], from: &[u64], n: usize)
     }
 }
 
-// A map of a count within bounds. Its ids go through a list of our own, since a map that is refused must leave the lent one as it was.
+// A map of a count within bounds. Its ids go through a list of our own, since a map that is refused must leave the
+// lent one as it was.
 fn read_through(s: &[u8], count: usize, ids: &mut [u64], own: &mut [u64]) -> Wrote
     requires { ⌜ (1 ≤ count) × ((count ≤ maxVectors) × (count ≤ length (now own))) ⌝ }
     ensures { λ r. ⌜ r ≡ readAnswer (mapOf count (now (s .entry))) (now (ids .entry)) ⌝ }

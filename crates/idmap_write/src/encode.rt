@@ -80,7 +80,8 @@ pub fn put_deltas(buf: &mut [u8], ids: &[u64], r: usize, start: usize)
     requires { ⌜ (0 < r) × (risesFrom 0 (now ids) ≡ true) ⌝ }
     requires { ⌜ start ≡ 7 + length (restarts r 0 0 0 (now ids)) ⌝ }
     requires { ⌜ start + length (deltas r 0 0 (now ids)) ≤ length (now buf) ⌝ }
-    ensures { λ _. ⌜ now (buf .exit) ≡ over (now (buf .entry)) 7 (restarts r 0 0 0 (now (ids .entry)) ++ deltas r 0 0 (now (ids .entry))) ⌝ }
+    ensures { λ _. ⌜ now (buf .exit) ≡ over (now (buf .entry)) 7
+        (restarts r 0 0 0 (now (ids .entry)) ++ deltas r 0 0 (now (ids .entry))) ⌝ }
 {
     let mut i: usize = 0;
     let mut left: usize = 0;

@@ -1,6 +1,7 @@
 // The id-map writer: 14 for input that breaks a rule, then 9 for a buffer without room; else the map, and its length.
 pub mod encode;
 pub mod refusal;
+
 ghost use mathlib.Core.Path.{_≡_};
 ghost use Prim.Native.Nat.{_+_, _*_, _≤_, _<_};
 ghost use lib.ListN.{length};
@@ -51,8 +52,10 @@ pub fn put(buf: &mut [u8], ids: &[u64], encoding: u64, interval: u64)
 
 // The map of ids at the front of a buffer, and its length.
 pub fn write(buf: &mut [u8], ids: &[u64], encoding: u64, interval: u64) -> Wrote
-    ensures { λ r. ⌜ r ≡ writeAnswer (mapBad (now (ids .entry)) encoding interval) (mapBytes (now (ids .entry)) encoding interval) (now (buf .entry)) ⌝ }
-    ensures { λ _. ⌜ now (buf .exit) ≡ writeBuffer (mapBad (now (ids .entry)) encoding interval) (mapBytes (now (ids .entry)) encoding interval) (now (buf .entry)) ⌝ }
+    ensures { λ r. ⌜ r ≡ writeAnswer (mapBad (now (ids .entry)) encoding interval)
+        (mapBytes (now (ids .entry)) encoding interval) (now (buf .entry)) ⌝ }
+    ensures { λ _. ⌜ now (buf .exit) ≡ writeBuffer (mapBad (now (ids .entry)) encoding interval)
+        (mapBytes (now (ids .entry)) encoding interval) (now (buf .entry)) ⌝ }
 {
     let bad = crate::refusal::refusal(ids, encoding, interval);
     if bad != 0 {

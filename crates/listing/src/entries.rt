@@ -15,7 +15,8 @@ ghost use Rattle.segment.specs.Header.{lengthAt};
 fn put_entry(text: &mut [u8], at: usize, file: &[u8], p: usize, state: u8) -> usize
     requires { ⌜ p + (64 + lengthAt (now file) p) ≤ length (now file) ⌝ }
     requires { ⌜ at + 97 ≤ length (now text) ⌝ }
-    ensures { λ r. ⌜ Written (now (text .entry)) (now (text .exit)) at (lineAt (now (file .entry)) p (stateWord state)) r ⌝ }
+    ensures { λ r. ⌜ Written (now (text .entry)) (now (text .exit)) at
+        (lineAt (now (file .entry)) p (stateWord state)) r ⌝ }
     ensures { λ r. ⌜ r ≤ at + 97 ⌝ }
 {
     if state == 0 {
@@ -43,7 +44,16 @@ pub fn put_entries(
     let mut i: usize = 0;
     while i < count {
         let p = offsets[i] as usize;
-        end = put_entry(text, end, file, p, file[manifest + manifest::fields::ENTRIES + manifest::fields::ENTRY_SIZE * i + manifest::fields::STATE]);
+        end = put_entry(
+            text,
+            end,
+            file,
+            p,
+            file[manifest
+                + manifest::fields::ENTRIES
+                + manifest::fields::ENTRY_SIZE * i
+                + manifest::fields::STATE],
+        );
         i += 1;
     }
     end

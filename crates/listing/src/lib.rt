@@ -2,13 +2,14 @@
 pub mod entries;
 pub mod line;
 pub mod text;
+
 ghost use mathlib.Core.Path.{_≡_};
 ghost use Rattle.answers.specs.Write.{writeAnswer, writeBuffer};
 ghost use Rattle.reading.specs.Listing.{listText};
 use answers::Wrote;
 
-// The text about a file at the front of a buffer, and its length; 9 where there is no room. It is put together in an array of our own, since a refusal
-// changes no byte.
+// The text about a file at the front of a buffer, and its length; 9 where there is no room. It is put together in an
+// array of our own, since a refusal changes no byte.
 pub fn list(file: &[u8], buffer: &mut [u8]) -> Wrote
     ensures { λ r. ⌜ r ≡ writeAnswer 0 (listText (now (file .entry))) (now (buffer .entry)) ⌝ }
     ensures { λ _. ⌜ now (buffer .exit) ≡ writeBuffer 0 (listText (now (file .entry))) (now (buffer .entry)) ⌝ }

@@ -34,12 +34,18 @@ fn put_check(text: &mut [u8], at: usize, whole: bool) -> usize
 pub fn put_segment(text: &mut [u8], at: usize, file: &[u8], p: usize, word: &[u8]) -> usize
     requires { ⌜ p + (64 + lengthAt (now file) p) ≤ length (now file) ⌝ }
     requires { ⌜ (at + 97 ≤ length (now text)) × (length (now word) ≤ 8) ⌝ }
-    ensures { λ r. ⌜ Written (now (text .entry)) (now (text .exit)) at (lineAt (now (file .entry)) p (now (word .entry))) r ⌝ }
+    ensures { λ r. ⌜ Written (now (text .entry)) (now (text .exit)) at
+        (lineAt (now (file .entry)) p (now (word .entry))) r ⌝ }
     ensures { λ r. ⌜ r ≤ at + 97 ⌝ }
 {
     let length = octets::le::u64_at(file, p + segment::fields::LENGTH);
     let kind = file[p + segment::fields::KIND] as u64;
-    let named = put_columns(text, at, octets::le::u64_at(file, p + segment::fields::ID), kind);
+    let named = put_columns(
+        text,
+        at,
+        octets::le::u64_at(file, p + segment::fields::ID),
+        kind,
+    );
     let placed = put_columns(text, named, p as u64, length);
     let stated = octets::text::put_bytes(text, placed, word);
     put_check(text, stated, segment::is_whole(file, p, length as usize))

@@ -22,7 +22,8 @@ fn put_list(
     requires { ⌜ (most ≤ length (now offsets)) × (102400 ≤ length (now text)) ⌝ }
     requires { ⌜ Indexed (now file) (now offsets) ⌝ }
     requires { ⌜ OpensAt (now file) manifest end count boundaries ⌝ }
-    ensures { λ r. ⌜ Written (now (text .entry)) (now (text .exit)) 0 (listFound (tried (now (file .entry)) (opened (now (file .entry)))) (opened (now (file .entry)))) r ⌝ }
+    ensures { λ r. ⌜ Written (now (text .entry)) (now (text .exit)) 0
+        (listFound (tried (now (file .entry)) (opened (now (file .entry)))) (opened (now (file .entry)))) r ⌝ }
 {
     let headed = octets::text::put_bytes(text, 0, b"id type offset length state check\n");
     let listed = crate::entries::put_entries(text, headed, file, offsets, manifest, count);
@@ -42,7 +43,13 @@ pub fn put_text(text: &mut [u8], file: &[u8]) -> usize
     let mut offsets = [0u64; segment::index::MOST];
     let found = opening::open_with(file, &mut offsets);
     match found {
-        Opened::Refused(number) => octets::text::put_number(text, 0, b"refused ", number as u64, b"\n"),
+        Opened::Refused(number) => octets::text::put_number(
+            text,
+            0,
+            b"refused ",
+            number as u64,
+            b"\n",
+        ),
         Opened::NoManifest { tried: _ } => octets::text::put_number(text, 0, b"refused ", 2, b"\n"),
         Opened::At {
             offset,

@@ -1,5 +1,5 @@
-// The search for a vector id in a file: through the live VEC segments from the last in the directory to the first, each checked whole before it is
-// looked into. The first bad one refuses, the first that holds the id answers.
+// The search for a vector id in a file: through the live VEC segments from the last in the directory to the first,
+// each checked whole before it is looked into. The first bad one refuses, the first that holds the id answers.
 ghost use mathlib.Core.Path.{_≡_};
 ghost use Prim.Native.Nat.{_+_, _≤_};
 ghost use lib.ListN.{length};
@@ -8,8 +8,8 @@ ghost use Rattle.opening.specs.Indexed.{ManifestAt, Indexed};
 ghost use Rattle.reading.specs.Answers.{hitIn};
 ghost use Rattle.lookup.specs.in_segment.Located.{locatedOf};
 ghost use Rattle.answers.specs.limits.Limits.{maxVectors};
-use manifest::Opened;
 use crate::in_segment::Located;
+use manifest::Opened;
 
 // The search in the directory of the manifest at an offset, down from its last entry.
 fn search(
@@ -32,7 +32,12 @@ fn search(
         if file[p + segment::fields::KIND] != vecseg::KIND {
             continue;
         }
-        if file[manifest + manifest::fields::ENTRIES + manifest::fields::ENTRY_SIZE * i + manifest::fields::STATE] != 0 {
+        if file[manifest
+            + manifest::fields::ENTRIES
+            + manifest::fields::ENTRY_SIZE * i
+            + manifest::fields::STATE]
+            != 0
+        {
             continue;
         }
         let segment = crate::in_segment::look(file, p, id, own);

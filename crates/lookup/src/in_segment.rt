@@ -8,8 +8,8 @@ ghost use Rattle.segment.specs.Header.{lengthAt};
 ghost use Rattle.answers.specs.limits.Limits.{maxVectors};
 use vec_read::find::Found;
 
-// Where a vector stands: where its segment's payload begins in the file and how long it is; in that payload its block's offset, count, dim and dtype,
-// and which vector of the block it is. Or nowhere; or the number of a refusal.
+// Where a vector stands: where its segment's payload begins in the file and how long it is; in that payload its
+// block's offset, count, dim and dtype, and which vector of the block it is. Or nowhere; or the number of a refusal.
 pub enum Located {
     In {
         body: usize,
@@ -24,7 +24,8 @@ pub enum Located {
     Refused(u32),
 }
 
-// One segment, whose header begins at p, with a list of our own for the ids of a block: 4 where the hash differs, then the payload's check.
+// One segment, whose header begins at p, with a list of our own for the ids of a block: 4 where the hash differs,
+// then the payload's check.
 pub fn look(file: &[u8], p: usize, id: u64, own: &mut [u64]) -> Located
     requires { ⌜ (p + (64 + lengthAt (now file) p) ≤ length (now file)) × (maxVectors ≤ length (now own)) ⌝ }
     ensures { λ r. ⌜ r ≡ lookAt (now (file .entry)) p (lengthAt (now (file .entry)) p) id ⌝ }

@@ -10,7 +10,8 @@ ghost use Rattle.reading.specs.Part.{placeOf};
 use manifest::Opened;
 use reading::PayloadPlace;
 
-// The live segment with an id in the directory of the manifest at an offset: 3 where there is none, 4 where the hash differs.
+// The live segment with an id in the directory of the manifest at an offset: 3 where there is none, 4 where the hash
+// differs.
 fn find(file: &[u8], offsets: &[u64], manifest: usize, count: usize, id: u64) -> PayloadPlace
     requires { ⌜ most ≤ length (now offsets) ⌝ }
     requires { ⌜ Indexed (now file) (now offsets) ⌝ }
@@ -24,7 +25,12 @@ fn find(file: &[u8], offsets: &[u64], manifest: usize, count: usize, id: u64) ->
             i += 1;
             continue;
         }
-        if file[manifest + manifest::fields::ENTRIES + manifest::fields::ENTRY_SIZE * i + manifest::fields::STATE] != 0 {
+        if file[manifest
+            + manifest::fields::ENTRIES
+            + manifest::fields::ENTRY_SIZE * i
+            + manifest::fields::STATE]
+            != 0
+        {
             i += 1;
             continue;
         }

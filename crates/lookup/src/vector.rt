@@ -4,11 +4,11 @@ ghost use Rattle.reading.specs.Answers.{vectorCase, vectorAfter, valueIn};
 ghost use Rattle.answers.specs.Answer.{number};
 ghost use Rattle.reading.specs.Component.{componentCase, kindAnswer, bitsCase, bitsAnswer};
 ghost use Rattle.lookup.specs.vector.Value.{Lies};
-use answers::Wrote;
 use crate::in_segment::Located;
-use vecseg::Vector;
+use answers::Wrote;
 use reading::ComponentBits;
 use reading::ComponentRead;
+use vecseg::Vector;
 
 // Where a component's value stands in the file, with its dtype; or the number of a refusal.
 pub enum ValuePlace {
@@ -16,7 +16,8 @@ pub enum ValuePlace {
     Refused(u32),
 }
 
-// The vector's bytes in dimension order at the front of a buffer: 1, 2, then the search with its 4, 5, 6, 7, then 8, then 9.
+// The vector's bytes in dimension order at the front of a buffer: 1, 2, then the search with its 4, 5, 6, 7, then 8,
+// then 9.
 pub fn vector(file: &[u8], id: u64, buf: &mut [u8]) -> Vector
     ensures { λ r. ⌜ r ≡ vectorCase (now (file .entry)) id (now (buf .entry)) ⌝ }
     ensures { λ _. ⌜ now (buf .exit) ≡ vectorAfter (now (file .entry)) id (now (buf .entry)) ⌝ }
@@ -35,7 +36,15 @@ pub fn vector(file: &[u8], id: u64, buf: &mut [u8]) -> Vector
             index,
         } => {
             let end = body + length;
-            let w = vec_read::values::read_vector(&file[body..end], offset, count, dim, dtype, index, buf);
+            let w = vec_read::values::read_vector(
+                &file[body..end],
+                offset,
+                count,
+                dim,
+                dtype,
+                index,
+                buf,
+            );
             match w {
                 Wrote::Refused(number) => Vector::Refused(number),
                 Wrote::Length(written) => Vector::Read {
@@ -48,7 +57,8 @@ pub fn vector(file: &[u8], id: u64, buf: &mut [u8]) -> Vector
     }
 }
 
-// Where a component's value stands. The index is looked at after the search: a bad segment wins over an index that is too large.
+// Where a component's value stands. The index is looked at after the search: a bad segment wins over an index that is
+// too large.
 fn value_place(file: &[u8], id: u64, component: u64) -> ValuePlace
     ensures { λ r. ⌜ Lies (now (file .entry)) (valueIn (now (file .entry)) id component) r ⌝ }
 {
@@ -81,12 +91,17 @@ fn value_place(file: &[u8], id: u64, component: u64) -> ValuePlace
 // A component of the vector with an id, by its index: 1, 2, the search, then 8.
 pub fn component(file: &[u8], id: u64, index: u64) -> ComponentRead
     ensures kind { λ r. ⌜ r ≡ componentCase (valueIn (now (file .entry)) id index) ⌝ }
-    ensures number { λ r. ⌜ number (kindAnswer r) ≡ number (bitsAnswer (bitsCase (valueIn (now (file .entry)) id index))) ⌝ }
+    ensures number { λ r. ⌜ number (kindAnswer r) ≡ number
+        (bitsAnswer (bitsCase (valueIn (now (file .entry)) id index))) ⌝ }
 {
     let place = value_place(file, id, index);
     match place {
         ValuePlace::Refused(number) => ComponentRead::Refused(number),
-        ValuePlace::At { at, dtype } => ComponentRead::Value(vec_read::values::component_at(file, at, dtype)),
+        ValuePlace::At { at, dtype } => ComponentRead::Value(vec_read::values::component_at(
+            file,
+            at,
+            dtype,
+        )),
     }
 }
 

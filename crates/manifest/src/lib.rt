@@ -1,8 +1,8 @@
 // Manifests and what opening finds: definitions and laws (specs/), and the types of what is answered about them.
 pub mod fields;
 
-// What opening a file answers: its manifest's offset, end and id, the number of its entries and the boundaries tried; or no manifest
-// with the boundaries tried; or the number of a refusal.
+// What opening a file answers: its manifest's offset, end and id, the number of its entries and the boundaries tried;
+// or no manifest with the boundaries tried; or the number of a refusal.
 pub enum Opened {
     At {
         offset: usize,
@@ -17,7 +17,8 @@ pub enum Opened {
     Refused(u32),
 }
 
-// What the directory has at an index: the fields of the entry, the hash as two numbers; or no entry; or the number of a refusal.
+// What the directory has at an index: the fields of the entry, the hash as two numbers; or no entry; or the number of
+// a refusal.
 pub enum DirectoryEntry {
     Of {
         offset: u64,

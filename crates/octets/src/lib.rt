@@ -2,6 +2,7 @@
 pub mod le;
 pub mod numbers;
 pub mod text;
+
 ghost use mathlib.Core.Path.{_≡_};
 ghost use Prim.Native.Nat.{_+_, _≤_, _<_, _^_};
 ghost use lib.ListN.{length, replicate};

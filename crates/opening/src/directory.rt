@@ -8,8 +8,8 @@ ghost use Rattle.opening.specs.directory.Entry.{entryAt};
 use manifest::DirectoryEntry;
 use manifest::Opened;
 
-// The entry of the link whose header begins at p, with the state that stands at s. A confirmed manifest says of a link what the link's own
-// header says; the state stands in the manifest alone.
+// The entry of the link whose header begins at p, with the state that stands at s. A confirmed manifest says of a
+// link what the link's own header says; the state stands in the manifest alone.
 fn read_entry(file: &[u8], p: usize, s: usize) -> DirectoryEntry
     requires { ⌜ (p + 64 ≤ length (now file)) × (s < length (now file)) ⌝ }
     ensures { λ r. ⌜ r ≡ entryAt (now (file .entry)) p s ⌝ }
@@ -46,7 +46,14 @@ pub fn entry(file: &[u8], index: u64) -> DirectoryEntry
                 return DirectoryEntry::NoEntry;
             }
             let i = index as usize;
-            read_entry(file, offsets[i] as usize, offset + manifest::fields::ENTRIES + manifest::fields::ENTRY_SIZE * i + manifest::fields::STATE)
+            read_entry(
+                file,
+                offsets[i] as usize,
+                offset
+                    + manifest::fields::ENTRIES
+                    + manifest::fields::ENTRY_SIZE * i
+                    + manifest::fields::STATE,
+            )
         }
     }
 }

@@ -1,5 +1,6 @@
 // Opening a file: the search from its end for the last confirmed manifest of the chain.
 pub mod directory;
+
 ghost use mathlib.Core.Path.{_≡_};
 ghost use Prim.Native.Nat.{_+_, _≤_, _<_};
 ghost use lib.ListN.{length, take};
@@ -24,10 +25,12 @@ fn candidate(file: &[u8], offsets: &[u64], n: usize, i: usize, p: usize) -> bool
     confirm::is_confirmed(file, offsets, i, p, len, kind, id)
 }
 
-// Down from the last multiple of 64 that has 64 bytes after it, by 64. The offsets of the chain's first links rise, so a number k that
-// only goes down tells whether a link begins at a boundary; only there is more than that looked at.
+// Down from the last multiple of 64 that has 64 bytes after it, by 64. The offsets of the chain's first links rise,
+// so a number k that only goes down tells whether a link begins at a boundary; only there is more than that looked
+// at.
 fn search(file: &[u8], offsets: &[u64], n: usize) -> Opened
-    requires { ⌜ (Stored (now file) (now offsets) n) × ((most ≤ length (now offsets)) × (length (now file) ≤ maxFile)) ⌝ }
+    requires { ⌜ (Stored (now file) (now offsets) n) × ((most ≤ length (now offsets))
+        × (length (now file) ≤ maxFile)) ⌝ }
     ensures { λ r. ⌜ r ≡ foundCase (now (file .entry)) (opened (now (file .entry))) ⌝ }
 {
     let mut k = n;
@@ -58,8 +61,8 @@ fn search(file: &[u8], offsets: &[u64], n: usize) -> Opened
     Opened::NoManifest { tried }
 }
 
-// The file's manifest, with the offsets of the first links left in a list for the calls that go on from there; 1 for a file above the limit, then 2
-// where no manifest is confirmed.
+// The file's manifest, with the offsets of the first links left in a list for the calls that go on from there; 1 for
+// a file above the limit, then 2 where no manifest is confirmed.
 pub fn open_with(file: &[u8], offsets: &mut [u64]) -> Opened
     requires { ⌜ most ≤ length (now offsets) ⌝ }
     ensures { λ r. ⌜ r ≡ openedCase (now (file .entry)) ⌝ }

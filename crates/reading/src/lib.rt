@@ -13,7 +13,8 @@ pub enum ComponentRead {
     Refused(u32),
 }
 
-// A component's dtype and the bytes of its value as a number, so that a NaN keeps its payload; or the number of a refusal.
+// A component's dtype and the bytes of its value as a number, so that a NaN keeps its payload; or the number of a
+// refusal.
 pub enum ComponentBits {
     Of { dtype: u8, bits: u32 },
     Refused(u32),

@@ -1,5 +1,5 @@
-// Reads a file from standard input, at most 65,536 bytes, and prints its directory as a list, or `refused n`. One byte more than the limit is
-// read, so that a longer file shows as one.
+// Reads a file from standard input, at most 65,536 bytes, and prints its directory as a list, or `refused n`. One
+// byte more than the limit is read, so that a longer file shows as one.
 use answers::Wrote;
 use libc::STDIN_FILENO;
 use libc::STDOUT_FILENO;

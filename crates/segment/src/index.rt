@@ -1,4 +1,5 @@
-// Where the first links of a file's chain begin, so that a search from the end needs no walk of its own at each boundary.
+// Where the first links of a file's chain begin, so that a search from the end needs no walk of its own at each
+// boundary.
 ghost use mathlib.Core.Path.{_≡_};
 ghost use Prim.Native.Nat.{_≤_};
 ghost use lib.ListN.{length, take};

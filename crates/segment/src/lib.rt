@@ -5,6 +5,7 @@ pub mod header;
 pub mod index;
 pub mod link;
 pub mod write;
+
 ghost use mathlib.Core.Path.{_≡_};
 ghost use Prim.Native.Nat.{_+_, _≤_};
 ghost use lib.ListN.{length};
@@ -14,7 +15,8 @@ ghost use Rattle.segment.specs.Step.{wholeAt};
 // The bytes that a segment begins with, in file order.
 pub const MAGIC: [u8; 4] = [0x52, 0x56, 0x46, 0x53];
 
-// What a walk finds at a place: a link with its end, id, payload length, type and flags; or none, where the chain stops.
+// What a walk finds at a place: a link with its end, id, payload length, type and flags; or none, where the chain
+// stops.
 pub enum Step {
     Sound {
         end: usize,

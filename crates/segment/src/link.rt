@@ -5,7 +5,8 @@ ghost use lib.ListN.{length};
 ghost use Rattle.segment.specs.Step.{stepAt};
 use crate::Step;
 
-// The link that stands at a place, where the link before has the id prev, or none is before. A length is compared before it is added to.
+// The link that stands at a place, where the link before has the id prev, or none is before. A length is compared
+// before it is added to.
 pub fn link_at(file: &[u8], at: usize, first: bool, prev: u64) -> Step
     ensures { λ r. ⌜ r ≡ stepAt (now (file .entry)) at first prev ⌝ }
 {

@@ -22,7 +22,8 @@ fn header_of(kind: u8, flags: u16, id: u64, timestamp: u64, len: usize, hash: [u
     h
 }
 
-// That header at the front of a buffer, where the payload may stand behind it already; the bytes behind the header stay.
+// That header at the front of a buffer, where the payload may stand behind it already; the bytes behind the header
+// stay.
 pub fn put_header(
     buf: &mut [u8],
     kind: u8,
@@ -50,7 +51,8 @@ pub fn put_segment(
 ) -> usize
     requires { ⌜ 64 + round64 (length (now payload)) ≤ length (now buf) ⌝ }
     ensures { λ r. ⌜ r ≡ length (segment kind flags id timestamp (now (payload .entry))) ⌝ }
-    ensures { λ _. ⌜ now (buf .exit) ≡ over (now (buf .entry)) 0 (segment kind flags id timestamp (now (payload .entry))) ⌝ }
+    ensures { λ _. ⌜ now (buf .exit) ≡ over (now (buf .entry)) 0
+        (segment kind flags id timestamp (now (payload .entry))) ⌝ }
 {
     let len = payload.len();
     let body = 64;

@@ -1,4 +1,5 @@
-// Reads an id map from standard input, at most 65,536 bytes, and prints its length and its ids, one a line; or `refused n`.
+// Reads an id map from standard input, at most 65,536 bytes, and prints its length and its ids, one a line; or
+// `refused n`.
 use answers::Wrote;
 use libc::STDIN_FILENO;
 use libc::STDOUT_FILENO;

@@ -1,5 +1,6 @@
 // Unsigned LEB128 of a `u64`, in its shortest form: at most ten bytes, seven bits a byte, the lowest first.
 pub mod write;
+
 ghost use mathlib.Core.Path.{_≡_};
 ghost use Prim.Native.Nat.{_+_, _<_};
 ghost use lib.ListN.{length, drop};

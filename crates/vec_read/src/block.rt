@@ -25,7 +25,8 @@ pub fn is_filled(s: &[u8], at: usize) -> bool
     octets::is_zero(&s[at..end])
 }
 
-// The block at the front of what is left of a payload. Its ids go to a list of our own; the check itself keeps none of them.
+// The block at the front of what is left of a payload. Its ids go to a list of our own; the check itself keeps none
+// of them.
 pub fn check_block(s: &[u8], count: usize, dim: usize, dtype: u8, own: &mut [u64]) -> Block
     requires { ⌜ (1 ≤ count) × ((count ≤ maxVectors) × ((count ≤ length (now own)) × (dim ≤ maxDim))) ⌝ }
     ensures { λ r. ⌜ r ≡ blockAnswer (blockOf (lineWith count dim dtype) (now (s .entry))) ⌝ }

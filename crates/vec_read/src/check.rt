@@ -6,7 +6,8 @@ ghost use Rattle.vecseg.specs.Payload.{linesBad, blocksBad, checkOf};
 ghost use Rattle.answers.specs.limits.Limits.{maxVectors};
 use crate::block::Block;
 
-// The blocks of a payload whose directory is good, from start on; each is handed over as the part of the payload from its place.
+// The blocks of a payload whose directory is good, from start on; each is handed over as the part of the payload from
+// its place.
 fn check_blocks(s: &[u8], blocks: usize, start: usize, own: &mut [u64]) -> u32
     requires { ⌜ (4 + 12 * blocks ≤ length (now s)) × ((start ≤ length (now s)) × (maxVectors ≤ length (now own))) ⌝ }
     requires { ⌜ linesBad blocks (drop 4 (now s)) ≡ 0 ⌝ }

@@ -1,4 +1,5 @@
-// The block and the place of a vector id in a sound VEC_SEG payload, from the last block to the first: ids may repeat, and the last copy counts.
+// The block and the place of a vector id in a sound VEC_SEG payload, from the last block to the first: ids may
+// repeat, and the last copy counts.
 ghost use mathlib.Core.Path.{_≡_};
 ghost use Prim.Native.Nat.{_+_, _*_, _≤_};
 ghost use lib.ListN.{length, take};
@@ -10,8 +11,8 @@ ghost use Rattle.answers.specs.limits.Limits.{maxVectors};
 use answers::Wrote;
 use octets::numbers::Index;
 
-// Where a vector stands: its block's offset, count, dim and dtype, and which vector of the block it is; or nowhere. A map
-// that could not be read would be a refusal, not a vector that is missing; a sound payload has none.
+// Where a vector stands: its block's offset, count, dim and dtype, and which vector of the block it is; or nowhere. A
+// map that could not be read would be a refusal, not a vector that is missing; a sound payload has none.
 pub enum Found {
     At {
         offset: usize,

@@ -1,15 +1,17 @@
-// A vector by its id out of a VEC_SEG payload. The payload is checked whole first: no vector leaves one that is not sound.
+// A vector by its id out of a VEC_SEG payload. The payload is checked whole first: no vector leaves one that is not
+// sound.
 pub mod block;
 pub mod check;
 pub mod find;
 pub mod lines;
 pub mod values;
 pub mod width;
+
 ghost use mathlib.Core.Path.{_≡_};
 ghost use Rattle.vecseg.specs.Vector.{vectorIn, vectorBuffer};
+use crate::find::Found;
 use answers::Wrote;
 use vecseg::Vector;
-use crate::find::Found;
 
 // 5, 6, 7 for a payload that is not sound; 8 where no block holds the id; 9 where the buffer is short.
 pub fn read(payload: &[u8], id: u64, buf: &mut [u8]) -> Vector

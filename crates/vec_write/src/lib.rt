@@ -1,5 +1,6 @@
 // The one-block vector writer: 14 for input that breaks a rule, then 9 for a buffer without room; else the payload, and its length.
 pub mod parts;
+
 ghost use mathlib.Core.Path.{_≡_};
 ghost use Prim.Native.Nat.{_+_, _<_};
 ghost use lib.ListN.{length};
