@@ -90,6 +90,7 @@ fn stored_cases() {
         ("damaged", sample("damaged.rvf")),
         ("nested", sample("nested.rvf")),
         ("restarts", sample("restarts.rvf")),
+        ("kinds", sample("kinds.rvf")),
         ("flipped_padding", sample("flipped_padding.rvf")),
         ("flipped_header", sample("flipped_header.rvf")),
         ("flipped_manifest", sample("flipped_manifest.rvf")),

@@ -1,17 +1,18 @@
 //! The sample files: the library makes the same bytes again, and each shows what it is for.
 
-use rvf::Refusal;
+use rvf::{Dtype, Refusal};
 use rvf_harness::calls::{Calls, Reference};
 use std::path::{Path, PathBuf};
 use std::process::Command;
 
-const NAMES: [&str; 9] = [
+const NAMES: [&str; 10] = [
     "worked.rvf",
     "clean.rvf",
     "torn.rvf",
     "damaged.rvf",
     "nested.rvf",
     "restarts.rvf",
+    "kinds.rvf",
     "flipped_padding.rvf",
     "flipped_header.rvf",
     "flipped_manifest.rvf",
@@ -109,6 +110,20 @@ fn restarts_begin_anew() {
     assert_eq!([213, 225, 425].map(value), [Err(Refusal::NoVector), Err(Refusal::NoVector), Err(Refusal::NoVector)]);
 }
 
+/// One of each dtype; the program that prints them runs on this file.
+#[test]
+fn kinds_has_a_note_and_a_vector_of_each_dtype() {
+    let file = sample("kinds.rvf");
+    assert_eq!(directory(&file), [(0, 7, false), (1, 1, false), (2, 1, false), (3, 1, false)]);
+    assert_eq!(rvf::payload(&file, 0), Ok(&b"one of each kind\n"[..]));
+    let wanted = ["2.5 0", "-0.75 1000000000", "-7 127", "200 0"].map(|value| Ok(value.to_string()));
+    assert_eq!([1, 2, 3, 4].map(|id| position(&file, id)), wanted);
+    let dtypes = [1, 2, 3, 4].map(|id| rvf::vector(&file, id).map(|vector| vector.dtype));
+    assert_eq!(dtypes, [Dtype::F32, Dtype::F32, Dtype::I8, Dtype::U8].map(Ok));
+    let stdin = std::fs::read(root().join("crates/show_reading/stdin")).expect("the program has a case");
+    assert_eq!(stdin, file);
+}
+
 /// One bit each: an earlier manifest is the file's, and what lies behind it is lost, not cut.
 #[test]
 fn flipped_bits_lose_batches_that_can_be_told() {
@@ -122,7 +137,7 @@ fn flipped_bits_lose_batches_that_can_be_told() {
         let behind = rvf::lost_behind(&file).expect("within the limit").expect("batches are lost");
         assert_eq!((behind.manifests.len(), behind.newest().map(|newest| (newest.id, newest.offset))), (lost, Some((6, 9_344))));
     }
-    for name in ["worked.rvf", "clean.rvf", "torn.rvf", "damaged.rvf", "nested.rvf", "restarts.rvf"] {
+    for name in ["worked.rvf", "clean.rvf", "torn.rvf", "damaged.rvf", "nested.rvf", "restarts.rvf", "kinds.rvf"] {
         assert_eq!(rvf::lost_behind(&sample(name)), Ok(None), "{name}");
     }
 }

@@ -75,6 +75,18 @@ fn restarts() -> Result<Vec<u8>, Refusal> {
     append(&[], &[vec(&payload)], &[], 6_000)
 }
 
+/// One batch: a note, then vectors of each dtype, the ids 1 and 2 as f32, 3 as i8, 4 as u8.
+fn kinds() -> Result<Vec<u8>, Refusal> {
+    let payload = |ids: &[u64], columns: &[u8], dim, dtype| {
+        rvf::vectors(&Vectors { ids, columns, dim, dtype, tier: 0, encoding: Encoding::Delta { interval: 0 } })
+    };
+    let floats: Vec<u8> = [2.5f32, -0.75, 0.0, 1e9].iter().flat_map(|value| value.to_le_bytes()).collect();
+    let floats = payload(&[1, 2], &floats, 2, Dtype::F32)?;
+    let signed = payload(&[3], &[(-7i8).to_le_bytes(), 127i8.to_le_bytes()].concat(), 2, Dtype::I8)?;
+    let unsigned = payload(&[4], &[200, 0], 2, Dtype::U8)?;
+    append(&[], &[note(b"one of each kind\n"), vec(&floats), vec(&signed), vec(&unsigned)], &[], 7_000)
+}
+
 /// The clean file with one bit flipped: in the padding behind the note, in the header of the
 /// second batch's vectors, in the newest manifest's entry for the first segment.
 fn flipped(clean: &[u8], at: usize, bit: u8) -> Vec<u8> {
@@ -92,6 +104,7 @@ fn main() -> Result<(), Box<dyn std::error::Error>> {
         ("damaged.rvf", damaged(&clean)?),
         ("nested.rvf", nested(&clean)?),
         ("restarts.rvf", restarts()?),
+        ("kinds.rvf", kinds()?),
         ("flipped_padding.rvf", flipped(&clean, 4_692, 2)),
         ("flipped_header.rvf", flipped(&clean, 4_423, 7)),
         ("flipped_manifest.rvf", flipped(&clean, 9_344 + 64 + 8 + 41, 0)),
