@@ -7,13 +7,13 @@ ghost use Rattle.reading.specs.Component.{bitsCase, bitsAnswer};
 ghost use Rattle.vecseg.specs.Vector.{vectorAnswer};
 use reading::ComponentBits;
 use reading::PayloadPlace;
-use vecseg::Vector;
 
 // Where the payload of the live segment with an id lies in the file: where it begins, and its length; or 1, 2, 3, 4.
 #[no_mangle]
 pub extern "C" fn rvf_payload(file: &[u8], id: u64, out: &mut [u64; 2]) -> u32
-    ensures { λ r. ⌜ r ≡ number (placeAnswer (placeOf (partIn (now (file .entry)) id))) ⌝ }
-    ensures { λ _. ⌜ now (out .exit) ≡ outOf (now (out .entry)) (placeAnswer (placeOf (partIn (now (file .entry)) id))) ⌝ }
+    ensures number { λ r. ⌜ r ≡ number (placeAnswer (placeOf (partIn (now (file .entry)) id))) ⌝ }
+    ensures values { λ _. ⌜ now (out .exit) ≡ outOf (now (out .entry))
+        (placeAnswer (placeOf (partIn (now (file .entry)) id))) ⌝ }
 {
     let p = lookup::place::payload_place(file, id);
     match p {
@@ -26,30 +26,26 @@ pub extern "C" fn rvf_payload(file: &[u8], id: u64, out: &mut [u64; 2]) -> u32
     }
 }
 
-// The vector with an id at the front of a buffer: dim, dtype and the length written; or 1, 2, the search's 4, 5, 6, 7, then 8, then 9.
+// The vector with an id at the front of a buffer: dim, dtype and the length written; or 1, 2, the search's 4, 5, 6, 7,
+// then 8, then 9.
 #[no_mangle]
 pub extern "C" fn rvf_vector(file: &[u8], id: u64, buffer: &mut [u8], out: &mut [u64; 3]) -> u32
-    ensures { λ r. ⌜ r ≡ number (vectorAnswer (vectorCase (now (file .entry)) id (now (buffer .entry)))) ⌝ }
-    ensures { λ _. ⌜ now (buffer .exit) ≡ vectorAfter (now (file .entry)) id (now (buffer .entry)) ⌝ }
-    ensures { λ _. ⌜ now (out .exit) ≡ outOf (now (out .entry)) (vectorAnswer (vectorCase (now (file .entry)) id (now (buffer .entry)))) ⌝ }
+    ensures number { λ r. ⌜ r ≡ number (vectorAnswer (vectorCase (now (file .entry)) id (now (buffer .entry)))) ⌝ }
+    ensures buffer { λ _. ⌜ now (buffer .exit) ≡ vectorAfter (now (file .entry)) id (now (buffer .entry)) ⌝ }
+    ensures values { λ _. ⌜ now (out .exit) ≡ outOf (now (out .entry))
+        (vectorAnswer (vectorCase (now (file .entry)) id (now (buffer .entry)))) ⌝ }
 {
     let v = lookup::vector::vector(file, id, buffer);
-    match v {
-        Vector::Refused(e) => e,
-        Vector::Read { dim, dtype, length } => {
-            out[0] = dim as u64;
-            out[1] = dtype as u64;
-            out[2] = length as u64;
-            0
-        }
-    }
+    crate::values::lay_vector(v, out)
 }
 
-// A component of the vector with an id: its dtype, and its bytes as a number, a NaN's payload included; or 1, 2, the search's 4, 5, 6, 7, then 8.
+// A component of the vector with an id: its dtype, and its bytes as a number, a NaN's payload included; or 1, 2, the
+// search's 4, 5, 6, 7, then 8.
 #[no_mangle]
 pub extern "C" fn rvf_component(file: &[u8], id: u64, index: u64, out: &mut [u64; 2]) -> u32
-    ensures { λ r. ⌜ r ≡ number (bitsAnswer (bitsCase (valueIn (now (file .entry)) id index))) ⌝ }
-    ensures { λ _. ⌜ now (out .exit) ≡ outOf (now (out .entry)) (bitsAnswer (bitsCase (valueIn (now (file .entry)) id index))) ⌝ }
+    ensures number { λ r. ⌜ r ≡ number (bitsAnswer (bitsCase (valueIn (now (file .entry)) id index))) ⌝ }
+    ensures values { λ _. ⌜ now (out .exit) ≡ outOf (now (out .entry))
+        (bitsAnswer (bitsCase (valueIn (now (file .entry)) id index))) ⌝ }
 {
     let b = lookup::vector::component_bits(file, id, index);
     match b {

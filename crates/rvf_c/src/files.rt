@@ -6,11 +6,12 @@ ghost use Rattle.manifest.specs.Directory.{entryCase, entryNumber, entryOut};
 use manifest::DirectoryEntry;
 use manifest::Opened;
 
-// The file's manifest: offset, end, id, the number of its entries and the boundaries tried; 1; or 2, which writes the boundaries tried alone.
+// The file's manifest: offset, end, id, the number of its entries and the boundaries tried; 1; or 2, which writes the
+// boundaries tried alone.
 #[no_mangle]
 pub extern "C" fn rvf_open(file: &[u8], out: &mut [u64; 5]) -> u32
-    ensures { λ r. ⌜ r ≡ number (openAnswer (now (file .entry))) ⌝ }
-    ensures { λ _. ⌜ now (out .exit) ≡ openOut (now (out .entry)) (openAnswer (now (file .entry))) ⌝ }
+    ensures number { λ r. ⌜ r ≡ number (openAnswer (now (file .entry))) ⌝ }
+    ensures values { λ _. ⌜ now (out .exit) ≡ openOut (now (out .entry)) (openAnswer (now (file .entry))) ⌝ }
 {
     let o = opening::open(file);
     match o {
@@ -40,8 +41,8 @@ pub extern "C" fn rvf_open(file: &[u8], out: &mut [u64; 5]) -> u32
 // flags; or 1, 2. Where the index is not below the number of entries it returns 255, which is no refusal.
 #[no_mangle]
 pub extern "C" fn rvf_entry(file: &[u8], index: u64, out: &mut [u64; 8]) -> u32
-    ensures { λ r. ⌜ r ≡ entryNumber (entryCase (now (file .entry)) index) ⌝ }
-    ensures { λ _. ⌜ now (out .exit) ≡ entryOut (now (out .entry)) (entryCase (now (file .entry)) index) ⌝ }
+    ensures number { λ r. ⌜ r ≡ entryNumber (entryCase (now (file .entry)) index) ⌝ }
+    ensures values { λ _. ⌜ now (out .exit) ≡ entryOut (now (out .entry)) (entryCase (now (file .entry)) index) ⌝ }
 {
     let e = opening::directory::entry(file, index);
     match e {

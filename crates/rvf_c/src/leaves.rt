@@ -6,7 +6,6 @@ ghost use Rattle.crc32c.specs.Crc.{crcOf};
 ghost use Rattle.varint.specs.Varint.{varintOf, varintAnswer, readVarint};
 ghost use Rattle.idmap.specs.Encode.{mapBytes, mapBad};
 ghost use Rattle.idmap.specs.Decode.{mapOf, readAnswer, readBuffer};
-use answers::Wrote;
 use varint::Varint;
 
 // CRC32C of all bytes.
@@ -20,8 +19,9 @@ pub extern "C" fn rvf_crc32c(bytes: &[u8]) -> u32
 // The varint at the front: value and length, or 5.
 #[no_mangle]
 pub extern "C" fn rvf_varint_read(bytes: &[u8], out: &mut [u64; 2]) -> u32
-    ensures { λ r. ⌜ r ≡ number (varintAnswer (readVarint (now (bytes .entry)))) ⌝ }
-    ensures { λ _. ⌜ now (out .exit) ≡ outOf (now (out .entry)) (varintAnswer (readVarint (now (bytes .entry)))) ⌝ }
+    ensures number { λ r. ⌜ r ≡ number (varintAnswer (readVarint (now (bytes .entry)))) ⌝ }
+    ensures values { λ _. ⌜ now (out .exit) ≡ outOf (now (out .entry))
+        (varintAnswer (readVarint (now (bytes .entry)))) ⌝ }
 {
     let v = varint::read(bytes);
     match v {
@@ -37,18 +37,13 @@ pub extern "C" fn rvf_varint_read(bytes: &[u8], out: &mut [u64; 2]) -> u32
 // A number's varint at the front of a buffer: its length, or 9.
 #[no_mangle]
 pub extern "C" fn rvf_varint_write(buffer: &mut [u8], value: u64, out: &mut [u64; 1]) -> u32
-    ensures { λ r. ⌜ r ≡ number (wroteAnswer (writeAnswer 0 (varintOf value) (now (buffer .entry)))) ⌝ }
-    ensures { λ _. ⌜ now (buffer .exit) ≡ writeBuffer 0 (varintOf value) (now (buffer .entry)) ⌝ }
-    ensures { λ _. ⌜ now (out .exit) ≡ outOf (now (out .entry)) (wroteAnswer (writeAnswer 0 (varintOf value) (now (buffer .entry)))) ⌝ }
+    ensures number { λ r. ⌜ r ≡ number (wroteAnswer (writeAnswer 0 (varintOf value) (now (buffer .entry)))) ⌝ }
+    ensures buffer { λ _. ⌜ now (buffer .exit) ≡ writeBuffer 0 (varintOf value) (now (buffer .entry)) ⌝ }
+    ensures values { λ _. ⌜ now (out .exit) ≡ outOf (now (out .entry))
+        (wroteAnswer (writeAnswer 0 (varintOf value) (now (buffer .entry)))) ⌝ }
 {
-    let w = varint::write::write(buffer, value);
-    match w {
-        Wrote::Refused(e) => e,
-        Wrote::Length(length) => {
-            out[0] = length as u64;
-            0
-        }
-    }
+    let written = varint::write::write(buffer, value);
+    crate::values::lay_length(written, out)
 }
 
 // The ids of a map of `count` ids at the front of the bytes, and the map's length: 5, then 9.
@@ -59,18 +54,14 @@ pub extern "C" fn rvf_idmap_read(
     ids: &mut [u64],
     out: &mut [u64; 1],
 ) -> u32
-    ensures { λ r. ⌜ r ≡ number (wroteAnswer (readAnswer (mapOf count (now (bytes .entry))) (now (ids .entry)))) ⌝ }
-    ensures { λ _. ⌜ now (ids .exit) ≡ readBuffer (mapOf count (now (bytes .entry))) (now (ids .entry)) ⌝ }
-    ensures { λ _. ⌜ now (out .exit) ≡ outOf (now (out .entry)) (wroteAnswer (readAnswer (mapOf count (now (bytes .entry))) (now (ids .entry)))) ⌝ }
+    ensures number { λ r. ⌜ r ≡ number
+        (wroteAnswer (readAnswer (mapOf count (now (bytes .entry))) (now (ids .entry)))) ⌝ }
+    ensures ids { λ _. ⌜ now (ids .exit) ≡ readBuffer (mapOf count (now (bytes .entry))) (now (ids .entry)) ⌝ }
+    ensures values { λ _. ⌜ now (out .exit) ≡ outOf (now (out .entry))
+        (wroteAnswer (readAnswer (mapOf count (now (bytes .entry))) (now (ids .entry)))) ⌝ }
 {
-    let w = idmap_read::read(bytes, count, ids);
-    match w {
-        Wrote::Refused(e) => e,
-        Wrote::Length(map_length) => {
-            out[0] = map_length as u64;
-            0
-        }
-    }
+    let read = idmap_read::read(bytes, count, ids);
+    crate::values::lay_length(read, out)
 }
 
 // The map of ids at the front of a buffer: its length, or 14, then 9.
@@ -82,16 +73,18 @@ pub extern "C" fn rvf_idmap_write(
     interval: u64,
     out: &mut [u64; 1],
 ) -> u32
-    ensures { λ r. ⌜ r ≡ number (wroteAnswer (writeAnswer (mapBad (now (ids .entry)) encoding interval) (mapBytes (now (ids .entry)) encoding interval) (now (buffer .entry)))) ⌝ }
-    ensures { λ _. ⌜ now (buffer .exit) ≡ writeBuffer (mapBad (now (ids .entry)) encoding interval) (mapBytes (now (ids .entry)) encoding interval) (now (buffer .entry)) ⌝ }
-    ensures { λ _. ⌜ now (out .exit) ≡ outOf (now (out .entry)) (wroteAnswer (writeAnswer (mapBad (now (ids .entry)) encoding interval) (mapBytes (now (ids .entry)) encoding interval) (now (buffer .entry)))) ⌝ }
+    ensures number { λ r. ⌜ r ≡ number (wroteAnswer (writeAnswer
+        (mapBad (now (ids .entry)) encoding interval)
+        (mapBytes (now (ids .entry)) encoding interval)
+        (now (buffer .entry)))) ⌝ }
+    ensures buffer { λ _. ⌜ now (buffer .exit) ≡ writeBuffer
+        (mapBad (now (ids .entry)) encoding interval)
+        (mapBytes (now (ids .entry)) encoding interval) (now (buffer .entry)) ⌝ }
+    ensures values { λ _. ⌜ now (out .exit) ≡ outOf (now (out .entry)) (wroteAnswer (writeAnswer
+        (mapBad (now (ids .entry)) encoding interval)
+        (mapBytes (now (ids .entry)) encoding interval)
+        (now (buffer .entry)))) ⌝ }
 {
-    let w = idmap_write::write(buffer, ids, encoding, interval);
-    match w {
-        Wrote::Refused(e) => e,
-        Wrote::Length(written) => {
-            out[0] = written as u64;
-            0
-        }
-    }
+    let mapped = idmap_write::write(buffer, ids, encoding, interval);
+    crate::values::lay_length(mapped, out)
 }

@@ -5,8 +5,6 @@ ghost use Rattle.answers.specs.Write.{wroteAnswer, writeAnswer, writeBuffer};
 ghost use Rattle.vecseg.specs.Payload.{checkOf};
 ghost use Rattle.vecseg.specs.Writer.{vecBad, vecBytes};
 ghost use Rattle.vecseg.specs.Vector.{vectorAnswer, vectorIn, vectorBuffer};
-use answers::Wrote;
-use vecseg::Vector;
 
 // The check of a payload: 5, 6, 7, or 0 where it is sound.
 #[no_mangle]
@@ -29,21 +27,25 @@ pub extern "C" fn rvf_vec_write(
     interval: u64,
     out: &mut [u64; 1],
 ) -> u32
-    ensures { λ r. ⌜ r ≡ number (wroteAnswer (writeAnswer (vecBad (now (ids .entry)) (now (columns .entry)) dim dtype tier encoding interval) (vecBytes (now (ids .entry)) (now (columns .entry)) dim dtype tier encoding interval) (now (buffer .entry)))) ⌝ }
-    ensures { λ _. ⌜ now (buffer .exit) ≡ writeBuffer (vecBad (now (ids .entry)) (now (columns .entry)) dim dtype tier encoding interval) (vecBytes (now (ids .entry)) (now (columns .entry)) dim dtype tier encoding interval) (now (buffer .entry)) ⌝ }
-    ensures { λ _. ⌜ now (out .exit) ≡ outOf (now (out .entry)) (wroteAnswer (writeAnswer (vecBad (now (ids .entry)) (now (columns .entry)) dim dtype tier encoding interval) (vecBytes (now (ids .entry)) (now (columns .entry)) dim dtype tier encoding interval) (now (buffer .entry)))) ⌝ }
+    ensures number { λ r. ⌜ r ≡ number (wroteAnswer (writeAnswer
+        (vecBad (now (ids .entry)) (now (columns .entry)) dim dtype tier encoding interval)
+        (vecBytes (now (ids .entry)) (now (columns .entry)) dim dtype tier encoding interval)
+        (now (buffer .entry)))) ⌝ }
+    ensures buffer { λ _. ⌜ now (buffer .exit) ≡ writeBuffer
+        (vecBad (now (ids .entry)) (now (columns .entry)) dim dtype tier encoding interval)
+        (vecBytes (now (ids .entry)) (now (columns .entry)) dim dtype tier encoding interval)
+        (now (buffer .entry)) ⌝ }
+    ensures values { λ _. ⌜ now (out .exit) ≡ outOf (now (out .entry)) (wroteAnswer (writeAnswer
+        (vecBad (now (ids .entry)) (now (columns .entry)) dim dtype tier encoding interval)
+        (vecBytes (now (ids .entry)) (now (columns .entry)) dim dtype tier encoding interval)
+        (now (buffer .entry)))) ⌝ }
 {
     let w = vec_write::write(buffer, ids, columns, dim, dtype, tier, encoding, interval);
-    match w {
-        Wrote::Refused(e) => e,
-        Wrote::Length(length) => {
-            out[0] = length as u64;
-            0
-        }
-    }
+    crate::values::lay_length(w, out)
 }
 
-// A vector by its id out of a payload, which is checked whole first: dim, dtype and the length written; or 5, 6, 7, then 8, then 9.
+// A vector by its id out of a payload, which is checked whole first: dim, dtype and the length written; or 5, 6, 7,
+// then 8, then 9.
 #[no_mangle]
 pub extern "C" fn rvf_vec_read(
     payload: &[u8],
@@ -51,18 +53,11 @@ pub extern "C" fn rvf_vec_read(
     buffer: &mut [u8],
     out: &mut [u64; 3],
 ) -> u32
-    ensures { λ r. ⌜ r ≡ number (vectorAnswer (vectorIn (now (payload .entry)) id (now (buffer .entry)))) ⌝ }
-    ensures { λ _. ⌜ now (buffer .exit) ≡ vectorBuffer (now (payload .entry)) id (now (buffer .entry)) ⌝ }
-    ensures { λ _. ⌜ now (out .exit) ≡ outOf (now (out .entry)) (vectorAnswer (vectorIn (now (payload .entry)) id (now (buffer .entry)))) ⌝ }
+    ensures number { λ r. ⌜ r ≡ number (vectorAnswer (vectorIn (now (payload .entry)) id (now (buffer .entry)))) ⌝ }
+    ensures buffer { λ _. ⌜ now (buffer .exit) ≡ vectorBuffer (now (payload .entry)) id (now (buffer .entry)) ⌝ }
+    ensures values { λ _. ⌜ now (out .exit) ≡ outOf (now (out .entry))
+        (vectorAnswer (vectorIn (now (payload .entry)) id (now (buffer .entry)))) ⌝ }
 {
     let v = vec_read::read(payload, id, buffer);
-    match v {
-        Vector::Refused(e) => e,
-        Vector::Read { dim, dtype, length } => {
-            out[0] = dim as u64;
-            out[1] = dtype as u64;
-            out[2] = length as u64;
-            0
-        }
-    }
+    crate::values::lay_vector(v, out)
 }

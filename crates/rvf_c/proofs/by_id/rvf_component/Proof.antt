@@ -1,4 +1,4 @@
--- `rvf_component` meets its contract: what `file_vector::component_bits` answers, by number and values.
+-- `rvf_component` meets its contract: what `lookup::vector::component_bits` answers, by number and values.
 -- Assumes nothing.
 use mathlib.Core.Path.{_≡_, sym, ap, _∙_}
 use mathlib.Core.List.{[]}

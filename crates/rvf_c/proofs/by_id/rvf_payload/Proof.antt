@@ -1,4 +1,4 @@
--- `rvf_payload` meets its contract: what `locate_payload::payload_place` answers, by number and values.
+-- `rvf_payload` meets its contract: what `lookup::place::payload_place` answers, by number and values.
 -- Assumes nothing.
 use mathlib.Core.Path.{_≡_, sym, ap, _∙_}
 use mathlib.Core.List.{[]}

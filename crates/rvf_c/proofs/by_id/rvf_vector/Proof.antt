@@ -1,10 +1,8 @@
--- `rvf_vector` meets its contract: what `file_vector::vector` answers, by number and values.
+-- `rvf_vector` meets its contract: what `lookup::vector::vector` answers, by number and values.
 -- Assumes nothing.
-use mathlib.Core.Path.{_≡_, sym, ap, _∙_}
-use mathlib.Core.List.{[]}
-use Rattle.answers.specs.Out.{out-refused, out-accepted}
+use mathlib.Core.Path.{ap, _∙_}
+use Rattle.answers.specs.Answer.{number, outOf}
 use Rattle.vecseg.specs.Vector.{vectorAnswer}
-use lib.Dec.{lit<}
 use borrow.Author.Needs.{needs}
 use Rattle.rvf_c.proofs.by_id.rvf_vector.Statement.{statement}
 use Rattle.rvf_c.proofs.by_id.rvf_vector.Tie as tie
@@ -12,52 +10,18 @@ use Rattle.rvf_c.proofs.by_id.rvf_vector.Tie as tie
 vector-requires : tie.Need-vector-requires
 vector-requires c κs = tt
 
-enum-known-v : tie.Need-enum-known-v
-enum-known-v c = search needs
-
-enum-known-v-2 : tie.Need-enum-known-v-2
-enum-known-v-2 c = search needs
-
-element-write-out : tie.Need-element-write-out
-element-write-out c = lit< tt
-
-cast-out : tie.Need-cast-out
-cast-out c = search needs
-
-element-write-out-2 : tie.Need-element-write-out-2
-element-write-out-2 c = lit< tt
-
-element-write-out-3 : tie.Need-element-write-out-3
-element-write-out-3 c = lit< tt
+lay-vector-requires : tie.Need-lay-vector-requires
+lay-vector-requires c κs = tt
 
 same-length : tie.Need-same-length
 same-length c = search needs
 
 returns : tie.Need-returns
 returns c =
-    let a = out-refused _ _ [] _ (ap vectorAnswer (sym (c .before .before .before .before .before .vector .ensures .0) ∙ c .before .v .given .1)) in
-    (a .0, (c .before .before .before .before .before .vector .ensures .1, a .1))
-
-same-length-2 : tie.Need-same-length-2
-same-length-2 c = search needs
-
-returns-2 : tie.Need-returns-2
-returns-2 c =
-    let a = out-accepted _ _ _ (ap vectorAnswer (sym (c .before .before .before .before .before .vector .ensures .0) ∙ c .before .v2 .given .1)) in
-    (a .0, (c .before .before .before .before .before .vector .ensures .1, a .1))
+    let called = c .before .before .before .before .vector .ensures in
+    let laid = c .lay-vector .ensures in
+    let a = ap vectorAnswer (called .0) in
+    (laid .0 ∙ ap number a, (called .1, laid .1 ∙ ap (outOf _) a))
 
 pub rvf-vector-spec : {M : Type 1} → statement M
-rvf-vector-spec =
-    tie.close
-    (tie.spec
-    vector-requires
-    enum-known-v
-    enum-known-v-2
-    element-write-out
-    cast-out
-    element-write-out-2
-    element-write-out-3
-    same-length
-    returns
-    same-length-2
-    returns-2)
+rvf-vector-spec = tie.close (tie.spec vector-requires lay-vector-requires same-length returns)

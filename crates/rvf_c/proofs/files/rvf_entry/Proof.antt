@@ -1,4 +1,4 @@
--- `rvf_entry` meets its contract: what `directory::entry` answers, by number and values.
+-- `rvf_entry` meets its contract: what `opening::directory::entry` answers, by number and values.
 -- Assumes nothing.
 use mathlib.Core.Path.{_≡_, sym, _∙_}
 use Rattle.manifest.specs.EntryOut.{out-entry, out-no-entry, out-refused}

@@ -1,10 +1,8 @@
 -- `rvf_idmap_read` meets its contract: what `idmap_read::read` answers, by number and values.
 -- Assumes nothing.
-use mathlib.Core.Path.{_≡_, sym, ap, _∙_}
-use mathlib.Core.List.{[]}
-use Rattle.answers.specs.Out.{out-refused, out-accepted}
+use mathlib.Core.Path.{ap, _∙_}
+use Rattle.answers.specs.Answer.{number, outOf}
 use Rattle.answers.specs.Write.{wroteAnswer}
-use lib.Dec.{lit<}
 use borrow.Author.Needs.{needs}
 use Rattle.rvf_c.proofs.leaves.rvf_idmap_read.Statement.{statement}
 use Rattle.rvf_c.proofs.leaves.rvf_idmap_read.Tie as tie
@@ -12,40 +10,18 @@ use Rattle.rvf_c.proofs.leaves.rvf_idmap_read.Tie as tie
 read-requires : tie.Need-read-requires
 read-requires c κs = tt
 
-enum-known-w : tie.Need-enum-known-w
-enum-known-w c = search needs
-
-enum-known-w-2 : tie.Need-enum-known-w-2
-enum-known-w-2 c = search needs
-
-element-write-out : tie.Need-element-write-out
-element-write-out c = lit< tt
+lay-length-requires : tie.Need-lay-length-requires
+lay-length-requires c κs = tt
 
 same-length : tie.Need-same-length
 same-length c = search needs
 
 returns : tie.Need-returns
 returns c =
-    let a = out-refused _ _ [] _ (ap wroteAnswer (sym (c .before .before .before .before .before .read .ensures .0) ∙ c .before .w .given .1)) in
-    (a .0, (c .before .before .before .before .before .read .ensures .1, a .1))
-
-same-length-2 : tie.Need-same-length-2
-same-length-2 c = search needs
-
-returns-2 : tie.Need-returns-2
-returns-2 c =
-    let a = out-accepted _ _ _ (ap wroteAnswer (sym (c .before .before .before .before .before .read .ensures .0) ∙ c .before .w2 .given .1)) in
-    (a .0, (c .before .before .before .before .before .read .ensures .1, a .1))
+    let called = c .before .before .before .before .read .ensures in
+    let laid = c .lay-length .ensures in
+    let a = ap wroteAnswer (called .0) in
+    (laid .0 ∙ ap number a, (called .1, laid .1 ∙ ap (outOf _) a))
 
 pub rvf-idmap-read-spec : {M : Type 1} → statement M
-rvf-idmap-read-spec =
-    tie.close
-    (tie.spec
-    read-requires
-    enum-known-w
-    enum-known-w-2
-    element-write-out
-    same-length
-    returns
-    same-length-2
-    returns-2)
+rvf-idmap-read-spec = tie.close (tie.spec read-requires lay-length-requires same-length returns)
