@@ -22,7 +22,7 @@ use Rattle.appending.specs.Retire.{retirable, retireHeld, retired}
 use Rattle.appending.specs.Append.{keptLinks, startOf, nextId, oldLinks, oldStates, keptStates, newCount, newStates}
 use Rattle.appending.specs.States.{retired-length}
 use Rattle.appending.specs.Buffer.{start-inside}
-use Rattle.append.specs.commit.Late.{nextOf}
+use Rattle.append.specs.commit.Commit.{nextOf}
 use Rattle.append.specs.commit.Base.{Base, kept-opens}
 
 -- ---- an empty file
@@ -34,7 +34,7 @@ module _ (g : List ℕ) (none-found : opened g ≡ none) where
       record {
         whole = e;
         small = omega arith;
-        few = omega arith;
+        at-most = omega arith;
         start-is = ap startOf none-found;
         count-is = ap (λ (o : Option (Found Link)). length (keptLinks o)) none-found;
         next-is = ap nextId none-found;
@@ -61,7 +61,7 @@ module _ (g : List ℕ) (none-found : opened g ≡ none) where
 
 -- ---- a manifest
 
-module _ (f old offsets : List ℕ) (n offset end id count : ℕ) (f-is : take n old ≡ f) (inside : n ≤ length old) (t : Bytes f) (s : Indexed f offsets) (long : most ≤ length offsets)
+module _ (f old offsets : List ℕ) (n offset end id count : ℕ) (f-is : take n old ≡ f) (inside : n ≤ length old) (t : Bytes f) (s : Indexed f offsets) (has-room : most ≤ length offsets)
     (m : ManifestAt f offset count) (end-is : m .found .link .offset + size (m .found .link) ≡ end) (id-is : m .found .link .id ≡ id) where
   start-end : startOf (opened f) ≡ end
   unfolding startOf
@@ -84,18 +84,18 @@ module _ (f old offsets : List ℕ) (n offset end id count : ℕ) (f-is : take n
   pub base-later : Base (take end old) offsets end (count + 1) false id
   unfolding nextOf nextId upTo
   base-later =
-      let r = manifest-room f offsets offset count t s long m in
+      let r = manifest-room f offsets offset count t s has-room m in
       record {
         whole = length-take-le end old (omega (arith, end-low));
         small = omega (arith, end-low, f-long, m .within);
-        few = omega (arith, r .1);
+        at-most = omega (arith, r .1);
         start-is = ap startOf front-opens ∙ start-end;
         count-is =
             ap (λ (o : Option (Found Link)). length (keptLinks o)) (front-opens ∙ m .opens)
             ∙ length-append (m .found .before) (m .found .link ∷ [])
             ∙ ap (λ (k : ℕ). k + 1) (m .count-is);
         next-is = ap nextId (front-opens ∙ m .opens) ∙ ap (λ (k : ℕ). k + 1) id-is;
-        offsets-are = sym (ap (λ (o : Option (Found Link)). offsetsOf (keptLinks o)) (front-opens ∙ m .opens) ∙ kept-offsets f offsets offset count t s long m);
+        offsets-are = sym (ap (λ (o : Option (Found Link)). offsetsOf (keptLinks o)) (front-opens ∙ m .opens) ∙ kept-offsets f offsets offset count t s has-room m);
       }
 
   pub states-later : (bs : List Body) (ids ss : List ℕ) → ss ≡ retired (oldLinks (opened f)) (oldStates (opened f)) ids ++ replicate (1024 - count) 0

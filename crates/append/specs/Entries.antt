@@ -12,7 +12,7 @@ use Rattle.octets.specs.Over.{over}
 use Rattle.octets.specs.OverLaws.{over-none, over-front}
 use Rattle.octets.specs.le.Le.{leAt, leOf}
 use Rattle.segment.specs.Header.{Link, idAt, kindAt}
-use Rattle.segment.specs.Laws.{linkFront, Lies, lies}
+use Rattle.segment.specs.Laws.{linkFront, LinkRead, lies}
 use Rattle.segment.specs.Chained.{offsetsOf}
 use Rattle.manifest.specs.Lying.{Lying}
 
@@ -29,7 +29,7 @@ unfolding idsAt All linkFront
 ids-lying f [] t = refl
 ids-lying f (l ∷ ls) t =
     let y = t .0 in
-    let z : Lies (y .state) (drop (l .offset) f) l = lies (y .state) (drop (l .offset) f) l (y .reads) in
+    let z : LinkRead (y .state) (drop (l .offset) f) l = lies (y .state) (drop (l .offset) f) l (y .reads) in
     ap₂ _∷_ (sym (ap (λ (x : Link). x .id) (z .link-is) ∙ ap (λ (s : List ℕ). leOf (take 8 s)) (drop-drop 0x08 (l .offset) f))) (ids-lying f ls (t .1))
 
 pub kinds-lying : (f : List ℕ) (ls : List Link) → All (Lying f) ls → kindsAt f (offsetsOf ls) ≡ map (λ l. l .kind) ls
@@ -37,7 +37,7 @@ unfolding kindsAt All linkFront
 kinds-lying f [] t = refl
 kinds-lying f (l ∷ ls) t =
     let y = t .0 in
-    let z : Lies (y .state) (drop (l .offset) f) l = lies (y .state) (drop (l .offset) f) l (y .reads) in
+    let z : LinkRead (y .state) (drop (l .offset) f) l = lies (y .state) (drop (l .offset) f) l (y .reads) in
     ap₂ _∷_ (sym (ap (λ (x : Link). x .kind) (z .link-is) ∙ getD-drop (l .offset) f 0x05 0)) (kinds-lying f ls (t .1))
 
 -- ---- where the loop stands that reads them: i are read
@@ -46,7 +46,7 @@ map-more : (g : ℕ → ℕ) (os : List ℕ) (i : ℕ) → i < length os → map
 map-more g os i h = ap (λ (n : ℕ). map g (take n os)) (add-one i) ∙ ap (map g) (take-suc os i 0 h) ∙ map-append g (take i os) (getD os i 0 ∷ [])
 
 pub record ReadAt (f os ids₀ ids ks₀ ks : List ℕ) (i : ℕ) : Type 0 where
-  pub few : i ≤ length os
+  pub at-most : i ≤ length os
   pub ids-long : length ids ≡ length ids₀
   pub ids-are : ids ≡ over ids₀ 0 (idsAt f (take i os))
   pub kinds-long : length ks ≡ length ks₀
@@ -54,7 +54,7 @@ pub record ReadAt (f os ids₀ ids ks₀ ks : List ℕ) (i : ℕ) : Type 0 where
 
 pub read-first : (f os ids ks : List ℕ) → ReadAt f os ids ids ks ks 0
 unfolding idsAt kindsAt
-read-first f os ids ks = record { few = omega arith; ids-long = refl; ids-are = sym (over-none ids 0); kinds-long = refl; kinds-are = sym (over-none ks 0) }
+read-first f os ids ks = record { at-most = omega arith; ids-long = refl; ids-are = sym (over-none ids 0); kinds-long = refl; kinds-are = sym (over-none ks 0) }
 
 pub read-next : (f os ids₀ ids ks₀ ks : List ℕ) (i : ℕ) → ReadAt f os ids₀ ids ks₀ ks i → i < length os → length os ≤ length ids₀ → length os ≤ length ks₀
     → (x : ℕ) → x ≡ idAt f (getD os i 0) → ReadAt f os ids₀ (set ids i x) ks₀ (set ks i (kindAt f (getD os i 0))) (i + 1)
@@ -64,7 +64,7 @@ read-next f os ids₀ ids ks₀ ks i st h a b x e =
     let idsg : ℕ → ℕ = λ o. idAt f o in
     let ksg : ℕ → ℕ = λ o. kindAt f o in
     record {
-      few = omega arith;
+      at-most = omega arith;
       ids-long = length-set ids i x ∙ st .ids-long;
       ids-are =
           over-front ids₀ ids (map (λ o. idAt f o) (take i os)) i x (st .ids-are) (length-map (take i os) (λ o. idAt f o) ∙ n) (omega arith)
@@ -79,7 +79,7 @@ read-next f os ids₀ ids ks₀ ks i st h a b x e =
 pub read-last : (f os ids₀ ids ks₀ ks : List ℕ) (i : ℕ) → ReadAt f os ids₀ ids ks₀ ks i → length os ≤ i
     → (ids ≡ over ids₀ 0 (idsAt f os)) × (ks ≡ over ks₀ 0 (kindsAt f os))
 read-last f os ids₀ ids ks₀ ks i st h =
-    let few = st .few in
+    let at-most = st .at-most in
     let e : i ≡ length os = omega arith in
     let t : take i os ≡ os = ap (λ (n : ℕ). take n os) e ∙ take-length os in
     (st .ids-are ∙ ap (λ (x : List ℕ). over ids₀ 0 (idsAt f x)) t, st .kinds-are ∙ ap (λ (x : List ℕ). over ks₀ 0 (kindsAt f x)) t)

@@ -1,5 +1,5 @@
 -- The last part of an append: what it answers and writes, what it knows of the file, and its ways out.
 pub mod Answer
-pub mod Late
 pub mod Base
-pub mod Finish
+pub mod Commit
+pub mod Written

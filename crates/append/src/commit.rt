@@ -8,7 +8,7 @@ ghost use Rattle.segment.specs.index.Offsets.{most};
 ghost use Rattle.manifest.specs.Opening.{opened};
 ghost use Rattle.batch.specs.Form.{batchHeld, bodiesOf};
 ghost use Rattle.appending.specs.Append.{appendedAnswer};
-ghost use Rattle.append.specs.commit.Late.{nextOf, lateAnswer, lateBuffer};
+ghost use Rattle.append.specs.commit.Commit.{nextOf, commitAnswer, commitBuffer};
 ghost use Rattle.append.specs.commit.Base.{Base};
 ghost use Rattle.answers.specs.limits.Limits.{maxEntries};
 use appending::Appended;
@@ -37,7 +37,7 @@ fn next_id(first: bool, last: u64) -> u64
 
 // The rest of an append, behind the tests of the file, the batch and the ids: 12, 13, 1, 9; then all is written. The
 // file is what is kept, the bytes up to the start.
-pub fn finish(
+pub fn commit(
     buf: &mut [u8],
     batch: &[u8],
     start: usize,
@@ -51,9 +51,9 @@ pub fn finish(
     requires { ⌜ (batchHeld (now batch) ≡ true) × ((length (now offsets) ≡ most)
         × (length (now states) ≡ maxEntries)) ⌝ }
     requires { ⌜ Base (take start (now buf)) (now offsets) start kept first last ⌝ }
-    ensures { λ r. ⌜ appendedAnswer r ≡ lateAnswer (length (now (buf .entry)))
+    ensures { λ r. ⌜ appendedAnswer r ≡ commitAnswer (length (now (buf .entry)))
         (opened (take start (now (buf .entry)))) (bodiesOf (now (batch .entry))) ⌝ }
-    ensures { λ _. ⌜ now (buf .exit) ≡ lateBuffer (opened (take start (now (buf .entry)))) (now (buf .entry))
+    ensures { λ _. ⌜ now (buf .exit) ≡ commitBuffer (opened (take start (now (buf .entry)))) (now (buf .entry))
         (bodiesOf (now (batch .entry))) (now (states .entry)) timestamp ⌝ }
 {
     let m = octets::le::u32_at(batch, 0) as usize;

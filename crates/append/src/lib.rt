@@ -115,7 +115,7 @@ pub fn append(buf: &mut [u8], n: u64, batch: &[u8], ids: &[u64], timestamp: u64)
                 return Appended::Refused(11);
             }
             let states = [0u8; answers::limits::MAX_ENTRIES];
-            crate::commit::finish(buf, batch, 0, 0, true, 0, timestamp, &mut offsets, &states)
+            crate::commit::commit(buf, batch, 0, 0, true, 0, timestamp, &mut offsets, &states)
         }
         Opened::At {
             offset,
@@ -133,7 +133,7 @@ pub fn append(buf: &mut [u8], n: u64, batch: &[u8], ids: &[u64], timestamp: u64)
                 return Appended::Refused(11);
             }
             let start = end;
-            crate::commit::finish(
+            crate::commit::commit(
                 buf,
                 batch,
                 start,

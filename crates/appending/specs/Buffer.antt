@@ -90,14 +90,14 @@ module _ (f old : List ℕ) (batch ids : List ℕ) (ts : ℕ) (hold : Holds old 
 
   module _ (vs new : List ℕ) (a : Appends old (length f) batch ids ts (Accepted vs) new) where
     -- it was accepted, so the buffer is long enough
-    long : length f ≤ length old
+    in-buffer : length f ≤ length old
     unfolding appendAnswer
-    long = accepted-when (length old) (length f) (opened (take (length f) old)) batch ids vs (sym (a .answers)) .0 .in-buffer
+    in-buffer = accepted-when (length old) (length f) (opened (take (length f) old)) batch ids vs (sym (a .answers)) .0 .in-buffer
 
     pub appended : Appended f old batch ids ts vs new
     unfolding appendBuffer bufferOn
     appended =
-        let q : answerOn (length old) (length f) (opened f) batch ids ≡ Accepted vs = sym (a .answers ∙ answer-is long) in
+        let q : answerOn (length old) (length f) (opened f) batch ids ≡ Accepted vs = sym (a .answers ∙ answer-is in-buffer) in
         let w = accepted-when (length old) (length f) (opened f) batch ids vs q in
         let s = start-inside f in
         record {
@@ -106,8 +106,8 @@ module _ (f old : List ℕ) (batch ids : List ℕ) (ts : ℕ) (hold : Holds old 
           buffer =
               a .leaves
               ∙ ap (bufferOn (opened (take (length f) old)) old (bodiesOf batch) ids ts) (sym (a .answers))
-              ∙ ap (λ (x : List ℕ). over old (startOf (opened x)) (newBytes (opened x) (bodiesOf batch) ids ts)) (hold long);
-          front = sym (ap (take (startOf (opened f))) (sym (hold long)) ∙ take-take (startOf (opened f)) (length f) old s);
+              ∙ ap (λ (x : List ℕ). over old (startOf (opened x)) (newBytes (opened x) (bodiesOf batch) ids ts)) (hold in-buffer);
+          front = sym (ap (take (startOf (opened f))) (sym (hold in-buffer)) ∙ take-take (startOf (opened f)) (length f) old s);
         }
 
 module _ (f old : List ℕ) (batch ids : List ℕ) (ts : ℕ) (vs new : List ℕ) (a : Appended f old batch ids ts vs new) where

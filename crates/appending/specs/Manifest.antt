@@ -10,7 +10,7 @@ use Rattle.octets.specs.le.Le.{leBytes}
 use Rattle.segment.specs.chain.Chain.{All}
 use Rattle.segment.specs.chain.Laws.{all-map}
 use Rattle.segment.specs.Header.{Link}
-use Rattle.segment.specs.Laws.{linkFront, Lies, lies, size-least}
+use Rattle.segment.specs.Laws.{linkFront, LinkRead, lies, size-least}
 use Rattle.segment.specs.Chained.{chain}
 use Rattle.segment.specs.Written.{linkOf}
 use Rattle.segment.specs.WrittenLaws.{hash-length}
@@ -29,7 +29,7 @@ Hashed l = length (l .hash) ≡ 16
 lying-hashed : (f : List ℕ) (l : Link) → Lying f l → Hashed l
 unfolding linkFront
 lying-hashed f l y =
-    let z : Lies (y .state) (drop (l .offset) f) l = lies (y .state) (drop (l .offset) f) l (y .reads) in
+    let z : LinkRead (y .state) (drop (l .offset) f) l = lies (y .state) (drop (l .offset) f) l (y .reads) in
     let s : List ℕ = drop (l .offset) f in
     let fits = z .fits in
     let least = size-least l in

@@ -16,7 +16,7 @@ use Rattle.octets.specs.ZeroLaws.{equal-same, and-split}
 use Rattle.answers.specs.limits.Limits.{maxFile, maxEntries}
 use Rattle.segment.specs.chain.Laws.{all-append, Exact, afters, afters-append, exact-append, sizes}
 use Rattle.segment.specs.chain.Chain.{All, Found, upTo, openOf}
-use Rattle.segment.specs.chain.Last.{Stands, last-stands}
+use Rattle.segment.specs.chain.Last.{LastIn, last-stands}
 use Rattle.segment.specs.chain.Walk.{sizes-append}
 use Rattle.segment.specs.Header.{Link, start, reader, size, whole, typeHeld, flagsHeld}
 use Rattle.segment.specs.Laws.{segment-format, afters-at}
@@ -59,7 +59,7 @@ confirmed-states b l e =
     let same = and-split (eqb (l .kind) manifestKind && leb (length b) maxEntries && whole l && statesHeld b (statesIn (length b) (drop 8 (l .payload)))) _ e in
     and-split (eqb (l .kind) manifestKind && leb (length b) maxEntries && whole l) _ (same .0) .1
 
-kept-some : (f : List ℕ) (r : Found Link) → Stands confirmed (chain f) r → Kept (some r)
+kept-some : (f : List ℕ) (r : Found Link) → LastIn confirmed (chain f) r → Kept (some r)
 unfolding upTo afters startOf nextId sizes keptStates statesHeld oldLinks oldStates states
 kept-some f r s =
     let b : List Link = r .before in
@@ -159,10 +159,10 @@ module _ (o : Option (Found Link)) (y : Kept o) (bs : List Body) (ids : List ℕ
   pub new-confirmed : newCount o bs ≤ maxEntries → retireHeld (oldLinks o) (oldStates o) ids ≡ true → confirmed (newLinks o bs ts) (newManifest o bs ids ts) ≡ true
   unfolding confirmed newManifest linkOf
   new-confirmed c h =
-      let few : leb (length (newLinks o bs ts)) maxEntries ≡ true = le-leb (length (newLinks o bs ts)) maxEntries (omega (arith, links-count)) in
+      let at-most : leb (length (newLinks o bs ts)) maxEntries ≡ true = le-leb (length (newLinks o bs ts)) maxEntries (omega (arith, links-count)) in
       let w : whole (linkOf (manifestAt o bs) manifestKind 0 (manifestId o bs) ts (newPayload o bs ids ts)) ≡ true =
       written-whole (manifestAt o bs) manifestKind 0 (manifestId o bs) ts (newPayload o bs ids ts) in
-      rw (few, w, new-states, new-states-held h, new-same)
+      rw (at-most, w, new-states, new-states-held h, new-same)
 
   -- the new bytes reach to the new end
   pub new-length : startOf o + length (newBytes o bs ids ts) ≡ newEnd o bs

@@ -111,8 +111,8 @@ module _ (s : List ℕ) where
     pub batch-lines : 16 ≤ length s → length s ≤ maxBatch → m ≤ maxBodies → allZero (take 12 (drop 4 s)) ≡ true → bodiesAt m ≤ length s
         → linesHeld m (bodiesAt m) (drop 16 s) (length s) ≡ batchHeld s
     unfolding batchHeld
-    batch-lines least most few zeros room =
-        rw (← count-is, le-leb 16 (length s) least, le-leb (length s) maxBatch most, le-leb m maxBodies few, zeros, le-leb (bodiesAt m) (length s) room)
+    batch-lines least most at-most zeros room =
+        rw (← count-is, le-leb 16 (length s) least, le-leb (length s) maxBatch most, le-leb m maxBodies at-most, zeros, le-leb (bodiesAt m) (length s) room)
 
   module _ (held : batchHeld s ≡ true) where
     rest : (leb 16 (length s) && leb (length s) maxBatch && leb (bodyCount s) maxBodies && allZero (take 12 (drop 4 s))
@@ -136,12 +136,12 @@ module _ (s : List ℕ) where
 -- ---- where a loop over n lines stands: i are behind it, and the next body is to begin at `at`
 
 pub record LinesAt (s : List ℕ) (n i at : ℕ) : Type 0 where
-  pub few : i ≤ n
+  pub at-most : i ≤ n
   pub small : at ≤ 16 + 16 * n + 4294967295 * i
   pub same : linesHeld (n - i) at (drop (16 + 16 * i) s) (length s) ≡ linesHeld n (bodiesAt n) (drop 16 s) (length s)
 
 pub lines-first : (s : List ℕ) (n : ℕ) → LinesAt s n 0 (16 + 16 * n)
-lines-first s n = let e : n - 0 ≡ n = omega arith in record { few = omega arith; small = omega arith; same = rw e }
+lines-first s n = let e : n - 0 ≡ n = omega arith in record { at-most = omega arith; small = omega arith; same = rw e }
 
 module _ (s : List ℕ) (n i at : ℕ) (st : LinesAt s n i at) (h : i < n) where
   -- the line as the code takes it out of the batch
@@ -167,12 +167,12 @@ module _ (s : List ℕ) (n i at : ℕ) (st : LinesAt s n i at) (h : i < n) where
   pub lines-next : (k : ℕ) → k ≡ leAt 4 s (16 + 16 * i + 8) → k ≤ 4294967295 → lineHeld at line ≡ true → LinesAt s n (i + 1) (at + k)
   lines-next k k-is most e =
       let small = st .small in
-      record { few = omega arith; small = omega arith; same = rw k-is (sym (turn ∙ rw (sym line-is ∙ e)) ∙ st .same) }
+      record { at-most = omega arith; small = omega arith; same = rw k-is (sym (turn ∙ rw (sym line-is ∙ e)) ∙ st .same) }
 
 pub lines-last : (s : List ℕ) (n i at : ℕ) → LinesAt s n i at → n ≤ i → eqb at (length s) ≡ linesHeld n (bodiesAt n) (drop 16 s) (length s)
 unfolding linesHeld
 lines-last s n i at st h =
-    let few = st .few in
+    let at-most = st .at-most in
     let e : n - i ≡ 0 = omega arith in
     let one : linesHeld (n - i) at (drop (16 + 16 * i) s) (length s) ≡ eqb at (length s) = rw e in
     sym one ∙ st .same

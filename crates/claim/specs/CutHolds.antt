@@ -129,8 +129,8 @@ module _ {f₀ g : List ℕ} {cs : List Call} (l : LastAppend f₀ cs g) where
         go true q = rw q
         go false q =
             let c = cutAt f g k in
-            let long : length (cutAt f g k) ≤ length old = ltb-false (length old) (length (cutAt f g k)) q in
-            answer-is (cutAt f g k) old batch ids 0 hold long
+            let in-buffer : length (cutAt f g k) ≤ length old = ltb-false (length old) (length (cutAt f g k)) q in
+            answer-is (cutAt f g k) old batch ids 0 hold in-buffer
             ∙ ap (λ (o : Option (Found Link)). answerOn (length old) (length (cutAt f g k)) o batch ids) (cut-opens ∙ start-none e)
             ∙ first-tests (length old) (length (cutAt f g k)) batch ids cut-fits (omega (arith, cut-length))
 

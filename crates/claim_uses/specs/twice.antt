@@ -1,3 +1,3 @@
 -- Two batches appended and the file opened, by the model.
 pub mod Twice
-pub mod Ways
+pub mod TwiceLaws

@@ -64,13 +64,13 @@ was-whole Broken n p = absurd (let z : _≡_ {A = ℕ} 0 1 = cc in omega arith)
 -- ---- raw
 
 pub record RawAt (s : List ℕ) (count i prev : ℕ) (ids : List ℕ) : Type 0 where
-  pub few : i ≤ count
+  pub at-most : i ≤ count
   pub same : readRaw (7 + 8 * count) (count - i) (lowOf i prev) (take i ids) (drop (7 + 8 * i) s) ≡ readRaw (7 + 8 * count) count 0 [] (drop 7 s)
 
 pub raw-first : (s : List ℕ) (count : ℕ) (ids : List ℕ) → RawAt s count 0 0 ids
 raw-first s count ids =
     let e : count - 0 ≡ count = omega arith in
-    record { few = omega arith; same = rw e }
+    record { at-most = omega arith; same = rw e }
 
 module _ (s : List ℕ) (count i prev : ℕ) (ids : List ℕ) (st : RawAt s count i prev ids) (h : i < count) where
   fuel : count - i ≡ suc (count - (i + 1))
@@ -84,7 +84,7 @@ module _ (s : List ℕ) (count i prev : ℕ) (ids : List ℕ) (st : RawAt s coun
       let one : readRaw (7 + 8 * count) (count - i) (lowOf i prev) (take i ids) (drop (7 + 8 * i) s)
       ≡ readRaw (7 + 8 * count) (count - (i + 1)) (suc x) (take i ids ++ (x ∷ [])) (drop (7 + 8 * (i + 1)) s) =
       rw (fuel, up2, ← is, drop-drop, e) in
-      record { few = omega arith; same = rw (low-more, add-one, take-suc-set ids i x room) (rw add-one at (sym one ∙ st .same)) }
+      record { at-most = omega arith; same = rw (low-more, add-one, take-suc-set ids i x room) (rw add-one at (sym one ∙ st .same)) }
 
   pub raw-stop : (x : ℕ) → x ≡ leAt 8 s (7 + 8 * i) → leb (lowOf i prev) x ≡ false → readRaw (7 + 8 * count) count 0 [] (drop 7 s) ≡ Broken
   unfolding readRaw
@@ -96,7 +96,7 @@ pub raw-last : (s : List ℕ) (count i prev : ℕ) (ids : List ℕ) → RawAt s 
     → readRaw (7 + 8 * count) count 0 [] (drop 7 s) ≡ Whole (7 + 8 * count) (take count ids)
 unfolding readRaw
 raw-last s count i prev ids st h =
-    let few = st .few in
+    let at-most = st .at-most in
     let e : count - i ≡ 0 = omega arith in
     let f : i ≡ count = omega arith in
     sym (st .same) ∙ rw (e, f)

@@ -71,7 +71,7 @@ module _ (start r n left low at : ℕ) (offs acc s : List ℕ) where
 -- ---- where the loop stands: i ids are read, the last of them prev; left more of the group, and g groups begun; pos is where the next id begins
 
 pub record DeltaAt (s : List ℕ) (count r start i left prev pos g : ℕ) (ids : List ℕ) : Type 0 where
-  pub few : i ≤ count
+  pub at-most : i ≤ count
   pub group : i + left ≡ g * r
   pub begun : g ≤ i
   pub first : i ≡ 0 → left ≡ 0
@@ -84,7 +84,7 @@ pub delta-first : (s : List ℕ) (count r start : ℕ) (ids : List ℕ) → star
 delta-first s count r start ids h =
     let e : count - 0 ≡ count = omega arith in
     let f : start - start ≡ 0 = omega arith in
-    record { few = omega arith; group = omega arith; begun = omega arith; first = λ z. refl; behind = omega arith; inside = h; same = rw (e, f) }
+    record { at-most = omega arith; group = omega arith; begun = omega arith; first = λ z. refl; behind = omega arith; inside = h; same = rw (e, f) }
 
 module _ (s : List ℕ) (count r start i left prev pos g : ℕ) (ids : List ℕ) (st : DeltaAt s count r start i left prev pos g ids) (h : i < count) where
   fuel : count - i ≡ suc (count - (i + 1))
@@ -119,7 +119,7 @@ module _ (s : List ℕ) (count r start i left prev pos g : ℕ) (ids : List ℕ)
         ≡ readDeltas start r (count - (i + 1)) (leftAfter r left) (suc x) (pos + k - start) (drop (7 + 4 * groupAfter left g) s) (take i ids ++ (x ∷ [])) (drop (pos + k) s) =
         rw fuel (deltas-next start r _ left _ _ _ _ _ v k p q ∙ rw (← is, e, offs-next, drop-drop)) in
         record {
-          few = omega arith;
+          at-most = omega arith;
           group = group-next r i left g hr (st .group);
           begun = group-few left g i (st .begun);
           first = λ z. absurd (omega arith);
@@ -132,7 +132,7 @@ pub delta-last : (s : List ℕ) (count r start i left prev pos g : ℕ) (ids : L
     → readDeltas start r count 0 0 0 (drop 7 s) [] (drop start s) ≡ Whole pos (take count ids)
 unfolding readDeltas
 delta-last s count r start i left prev pos g ids st h =
-    let few = st .few in
+    let at-most = st .at-most in
     let behind = st .behind in
     let e : count - i ≡ 0 = omega arith in
     let f : i ≡ count = omega arith in

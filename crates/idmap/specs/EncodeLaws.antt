@@ -72,12 +72,12 @@ length-restarts r ids h =
 -- ---- where a loop over the ids stands: i are passed, the last of them prev; left more of the group follow
 
 pub record IdsAt (ids : List ℕ) (i left prev : ℕ) : Type 0 where
-  pub few : i ≤ length ids
+  pub at-most : i ≤ length ids
   pub first : i ≡ 0 → left ≡ 0
   pub up : risesFrom (lowOf i prev) (drop i ids) ≡ true
 
 pub ids-first : (ids : List ℕ) → risesFrom 0 ids ≡ true → IdsAt ids 0 0 0
-ids-first ids h = record { few = omega arith; first = λ z. refl; up = h }
+ids-first ids h = record { at-most = omega arith; first = λ z. refl; up = h }
 
 rises-cons : (low : ℕ) (ids : List ℕ) (i : ℕ) → i < length ids → risesFrom low (drop i ids) ≡ leb low (getD ids i 0) && risesFrom (suc (getD ids i 0)) (drop (suc i) ids)
 unfolding risesFrom
@@ -88,7 +88,7 @@ module _ (ids : List ℕ) (i left prev : ℕ) (st : IdsAt ids i left prev) (h : 
   parts = and-split _ _ (sym (rises-cons (lowOf i prev) ids i h) ∙ st .up)
 
   pub ids-next : (left′ : ℕ) → IdsAt ids (i + 1) left′ (getD ids i 0)
-  ids-next left′ = record { few = omega arith; first = λ z. absurd (omega arith); up = rw (low-more, add-one) (parts .1) }
+  ids-next left′ = record { at-most = omega arith; first = λ z. absurd (omega arith); up = rw (low-more, add-one) (parts .1) }
 
   -- a difference is taken of an id that is not below the one before
   pub ids-above : (left ≡ 0 → ⊥) → prev ≤ getD ids i 0

@@ -25,19 +25,19 @@ fn copy_ids(ids: &mut [u64], from: &[u64], n: usize)
 
 // A map of a count within bounds. Its ids go through a list of our own, since a map that is refused must leave the
 // lent one as it was.
-fn read_through(s: &[u8], count: usize, ids: &mut [u64], own: &mut [u64]) -> Wrote
-    requires { ⌜ (1 ≤ count) × ((count ≤ maxVectors) × (count ≤ length (now own))) ⌝ }
+fn read_through(s: &[u8], count: usize, ids: &mut [u64], scratch: &mut [u64]) -> Wrote
+    requires { ⌜ (1 ≤ count) × ((count ≤ maxVectors) × (count ≤ length (now scratch))) ⌝ }
     ensures { λ r. ⌜ r ≡ readAnswer (mapOf count (now (s .entry))) (now (ids .entry)) ⌝ }
     ensures { λ _. ⌜ now (ids .exit) ≡ readBuffer (mapOf count (now (s .entry))) (now (ids .entry)) ⌝ }
 {
-    let m = crate::decode::decode(s, count, own);
+    let m = crate::decode::decode(s, count, scratch);
     match m {
         Wrote::Refused(number) => Wrote::Refused(number),
         Wrote::Length(n) => {
             if ids.len() < count {
                 return Wrote::Refused(9);
             }
-            copy_ids(ids, own, count);
+            copy_ids(ids, scratch, count);
             Wrote::Length(n)
         }
     }
@@ -59,6 +59,6 @@ pub fn read(s: &[u8], count: u64, ids: &mut [u64]) -> Wrote
         let mut short = [0u64; 64];
         return read_through(s, n, ids, &mut short);
     }
-    let mut long = [0u64; answers::limits::MAX_VECTORS];
-    read_through(s, n, ids, &mut long)
+    let mut most = [0u64; answers::limits::MAX_VECTORS];
+    read_through(s, n, ids, &mut most)
 }

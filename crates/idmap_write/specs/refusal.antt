@@ -1,2 +1,2 @@
 -- What an id map is refused for, by the ways out.
-pub mod Ways
+pub mod RefusalLaws

@@ -12,15 +12,15 @@ use crate::in_segment::Located;
 use manifest::Opened;
 
 // The search in the directory of the manifest at an offset, down from its last entry.
-fn search(
+fn find_down(
     file: &[u8],
     offsets: &[u64],
     manifest: usize,
     count: usize,
     id: u64,
-    own: &mut [u64],
+    scratch: &mut [u64],
 ) -> Located
-    requires { ⌜ (most ≤ length (now offsets)) × (maxVectors ≤ length (now own)) ⌝ }
+    requires { ⌜ (most ≤ length (now offsets)) × (maxVectors ≤ length (now scratch)) ⌝ }
     requires { ⌜ Indexed (now file) (now offsets) ⌝ }
     requires { ⌜ ManifestAt (now file) manifest count ⌝ }
     ensures { λ r. ⌜ r ≡ locatedOf (hitIn (now (file .entry)) id) ⌝ }
@@ -40,7 +40,7 @@ fn search(
         {
             continue;
         }
-        let segment = crate::in_segment::look(file, p, id, own);
+        let segment = crate::in_segment::find(file, p, id, scratch);
         match segment {
             Located::Nowhere => {}
             Located::Refused(number) => return Located::Refused(number),
@@ -69,7 +69,7 @@ fn search(
 }
 
 // Where a file's vector with an id stands; 1 and 2 as opening has them.
-pub fn locate(file: &[u8], id: u64) -> Located
+pub fn find(file: &[u8], id: u64) -> Located
     ensures { λ r. ⌜ r ≡ locatedOf (hitIn (now (file .entry)) id) ⌝ }
 {
     let mut offsets = [0u64; segment::index::MOST];
@@ -84,8 +84,8 @@ pub fn locate(file: &[u8], id: u64) -> Located
             count,
             tried: _,
         } => {
-            let mut own = [0u64; answers::limits::MAX_VECTORS];
-            search(file, &offsets, offset, count, id, &mut own)
+            let mut scratch = [0u64; answers::limits::MAX_VECTORS];
+            find_down(file, &offsets, offset, count, id, &mut scratch)
         }
     }
 }

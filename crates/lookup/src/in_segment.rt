@@ -3,7 +3,7 @@ ghost use mathlib.Core.Path.{_≡_};
 ghost use Prim.Native.Nat.{_+_, _≤_};
 ghost use lib.ListN.{length};
 ghost use Rattle.octets.specs.le.Le.{leAt};
-ghost use Rattle.lookup.specs.in_segment.Located.{lookAt};
+ghost use Rattle.lookup.specs.in_segment.Located.{segmentHitAt};
 ghost use Rattle.segment.specs.Header.{lengthAt};
 ghost use Rattle.answers.specs.limits.Limits.{maxVectors};
 use vec_read::find::Found;
@@ -26,9 +26,9 @@ pub enum Located {
 
 // One segment, whose header begins at p, with a list of our own for the ids of a block: 4 where the hash differs,
 // then the payload's check.
-pub fn look(file: &[u8], p: usize, id: u64, own: &mut [u64]) -> Located
-    requires { ⌜ (p + (64 + lengthAt (now file) p) ≤ length (now file)) × (maxVectors ≤ length (now own)) ⌝ }
-    ensures { λ r. ⌜ r ≡ lookAt (now (file .entry)) p (lengthAt (now (file .entry)) p) id ⌝ }
+pub fn find(file: &[u8], p: usize, id: u64, scratch: &mut [u64]) -> Located
+    requires { ⌜ (p + (64 + lengthAt (now file) p) ≤ length (now file)) × (maxVectors ≤ length (now scratch)) ⌝ }
+    ensures { λ r. ⌜ r ≡ segmentHitAt (now (file .entry)) p (lengthAt (now (file .entry)) p) id ⌝ }
 {
     let length = octets::le::u64_at(file, p + segment::fields::LENGTH) as usize;
     if !segment::is_whole(file, p, length) {
@@ -41,7 +41,7 @@ pub fn look(file: &[u8], p: usize, id: u64, own: &mut [u64]) -> Located
     if bad != 0 {
         return Located::Refused(bad);
     }
-    let found = vec_read::find::find_with(payload, id, own);
+    let found = vec_read::find::find_with(payload, id, scratch);
     match found {
         Found::Missing => Located::Nowhere,
         Found::Refused(number) => Located::Refused(number),

@@ -12,7 +12,7 @@ use reading::PayloadPlace;
 
 // The live segment with an id in the directory of the manifest at an offset: 3 where there is none, 4 where the hash
 // differs.
-fn find(file: &[u8], offsets: &[u64], manifest: usize, count: usize, id: u64) -> PayloadPlace
+fn find_in(file: &[u8], offsets: &[u64], manifest: usize, count: usize, id: u64) -> PayloadPlace
     requires { ⌜ most ≤ length (now offsets) ⌝ }
     requires { ⌜ Indexed (now file) (now offsets) ⌝ }
     requires { ⌜ ManifestAt (now file) manifest count ⌝ }
@@ -61,6 +61,6 @@ pub fn payload_place(file: &[u8], id: u64) -> PayloadPlace
             id: _,
             count,
             tried: _,
-        } => find(file, &offsets, offset, count, id),
+        } => find_in(file, &offsets, offset, count, id),
     }
 }

@@ -3,7 +3,7 @@ ghost use mathlib.Core.Path.{_≡_};
 ghost use Rattle.reading.specs.Answers.{vectorCase, vectorAfter, valueIn};
 ghost use Rattle.answers.specs.Answer.{number};
 ghost use Rattle.reading.specs.Component.{componentCase, kindAnswer, bitsCase, bitsAnswer};
-ghost use Rattle.lookup.specs.vector.Value.{Lies};
+ghost use Rattle.lookup.specs.vector.Value.{PlacedValue};
 use crate::in_segment::Located;
 use answers::Wrote;
 use reading::ComponentBits;
@@ -22,7 +22,7 @@ pub fn vector(file: &[u8], id: u64, buf: &mut [u8]) -> Vector
     ensures { λ r. ⌜ r ≡ vectorCase (now (file .entry)) id (now (buf .entry)) ⌝ }
     ensures { λ _. ⌜ now (buf .exit) ≡ vectorAfter (now (file .entry)) id (now (buf .entry)) ⌝ }
 {
-    let place = crate::in_file::locate(file, id);
+    let place = crate::in_file::find(file, id);
     match place {
         Located::Refused(number) => Vector::Refused(number),
         Located::Nowhere => Vector::Refused(8),
@@ -60,9 +60,9 @@ pub fn vector(file: &[u8], id: u64, buf: &mut [u8]) -> Vector
 // Where a component's value stands. The index is looked at after the search: a bad segment wins over an index that is
 // too large.
 fn value_place(file: &[u8], id: u64, component: u64) -> ValuePlace
-    ensures { λ r. ⌜ Lies (now (file .entry)) (valueIn (now (file .entry)) id component) r ⌝ }
+    ensures { λ r. ⌜ PlacedValue (now (file .entry)) (valueIn (now (file .entry)) id component) r ⌝ }
 {
-    let place = crate::in_file::locate(file, id);
+    let place = crate::in_file::find(file, id);
     match place {
         Located::Refused(number) => ValuePlace::Refused(number),
         Located::Nowhere => ValuePlace::Refused(8),

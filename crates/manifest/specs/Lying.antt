@@ -13,7 +13,7 @@ use Rattle.segment.specs.chain.Chain.{All, walk}
 use Rattle.segment.specs.chain.Laws.{all-map}
 use Rattle.segment.specs.chain.Walk.{walk-cons}
 use Rattle.segment.specs.Header.{Link, State, reader, linkAt, size, after, kindAt}
-use Rattle.segment.specs.Laws.{segment-format, linkFront, Lies, lies, size-least}
+use Rattle.segment.specs.Laws.{segment-format, linkFront, LinkRead, lies, size-least}
 use Rattle.segment.specs.Chained.{chain, offsetsOf}
 use Rattle.manifest.specs.SizedLaws.{entriesOf-same}
 use Rattle.manifest.specs.Payload.{entryBytes, entries, recordBytes, manifestPayload}
@@ -71,7 +71,7 @@ header-entry f o state t h =
 pub link-entry : (f : List ℕ) (st : State) (o : ℕ) (l : Link) (state : ℕ) → Bytes f → st .at ≡ o → linkAt st (drop o f) ≡ some l → entryAt f o state ≡ entryBytes l state
 unfolding entryBytes linkFront
 link-entry f st o l state t a e =
-    let y : Lies st (drop o f) l = lies st (drop o f) l e in
+    let y : LinkRead st (drop o f) l = lies st (drop o f) l e in
     let r = y .fits in
     let z = size-least l in
     let n = length-drop o f in

@@ -26,7 +26,7 @@ first-some (l ∷ ls) (suc i) = ap (λ (xs : List ℕ). l .offset ∷ xs) (first
 -- and so are those of the first links of a chain whose offsets are stored
 pub front-offsets : (f offsets : List ℕ) (n i : ℕ) → Stored f offsets n → i ≤ n → offsetsOf (take i (chain f)) ≡ take i offsets
 front-offsets f offsets n i s h =
-    let few = stored-few f offsets n s in
+    let at-most = stored-few f offsets n s in
     ap offsetsOf (sym (take-take i most (chain f) (omega arith)))
     ∙ first-some (take most (chain f)) i
     ∙ ap (take i) (sym (s .stored))

@@ -17,7 +17,7 @@ use Rattle.octets.specs.le.Le.{Bytes, leAt}
 use Rattle.answers.specs.limits.Limits.{maxFile, maxEntries}
 use Rattle.segment.specs.chain.Laws.{sizes}
 use Rattle.segment.specs.chain.Chain.{Found, openOf}
-use Rattle.segment.specs.chain.Last.{Stands, last-stands}
+use Rattle.segment.specs.chain.Last.{LastIn, last-stands}
 use Rattle.segment.specs.Header.{Link, whole, size, reader, noLink, lengthAt}
 use Rattle.segment.specs.Chained.{chain, offsetsOf, link-place}
 use Rattle.segment.specs.index.Offsets.{most, linkNo, Stored, stored-has, stored-few}
@@ -42,7 +42,7 @@ pub record ManifestAt (f : List ℕ) (offset count : ℕ) : Type 0 where
   pub opens : opened f ≡ some found
   pub offset-is : found .link .offset ≡ offset
   pub count-is : length (found .before) ≡ count
-  pub stands : Stands confirmed (chain f) found
+  pub stands : LastIn confirmed (chain f) found
 
 module _ (f : List ℕ) where
   long-case : maxFile < length f → openedCase f ≡ Refused 1
@@ -128,13 +128,13 @@ indexed f offsets n c e = record { count = refl; stored = ap (λ (k : ℕ). take
 -- where the parts of the entry with index i stand
 pub record EntryAt (f offsets : List ℕ) (r : Found Link) (offset i : ℕ) : Type 0 where
   pub stored : i < length offsets
-  pub few : i < maxEntries
+  pub at-most : i < maxEntries
   pub link-is : getD (r .before) i noLink ≡ linkNo f i
   pub numbered : Numbered f (getD offsets i 0) i (linkNo f i)
   pub state-is : getD (states r) i 0 ≡ getD f (statePlace offset i) 0
   pub state-room : statePlace offset i < length f
 
-module _ (f offsets : List ℕ) (offset count : ℕ) (t : Bytes f) (s : Indexed f offsets) (long : most ≤ length offsets) (m : ManifestAt f offset count) where
+module _ (f offsets : List ℕ) (offset count : ℕ) (t : Bytes f) (s : Indexed f offsets) (has-room : most ≤ length offsets) (m : ManifestAt f offset count) where
   abbrev b : List Link
   b = m .found .before
 
@@ -154,8 +154,8 @@ module _ (f offsets : List ℕ) (offset count : ℕ) (t : Bytes f) (s : Indexed 
       let r = record-ge (length (offsetsOf b)) in
       omega (arith, m .count-is)
 
-  few : count ≤ maxEntries
-  few = go (decLe count maxEntries)
+  at-most : count ≤ maxEntries
+  at-most = go (decLe count maxEntries)
     where
       go : Dec (count ≤ maxEntries) → count ≤ maxEntries
       go (yes q) = q
@@ -185,7 +185,7 @@ module _ (f offsets : List ℕ) (offset count : ℕ) (t : Bytes f) (s : Indexed 
 
   -- the first offsets are those of the directory's links; and of these and the manifest
   manifest-stored : count < length (take most (chain f))
-  manifest-stored = let q = few in stored-has f offsets _ s count (omega (arith, m .count-is, numbers .0)) (omega arith)
+  manifest-stored = let q = at-most in stored-has f offsets _ s count (omega (arith, m .count-is, numbers .0)) (omega arith)
 
   pub before-offsets : offsetsOf (m .found .before) ≡ take count offsets
   before-offsets =
@@ -203,11 +203,11 @@ module _ (f offsets : List ℕ) (offset count : ℕ) (t : Bytes f) (s : Indexed 
       ap offsetsOf (sym all ∙ ap (λ (k : ℕ). take (k + 1) (chain f)) (m .count-is)) ∙ front-offsets f offsets _ (count + 1) s (omega arith)
 
   pub manifest-room : (offset + 64 ≤ length f) × (count ≤ maxEntries)
-  manifest-room = let r = manifest-numbered .room in let q = few in (omega arith, q)
+  manifest-room = let r = manifest-numbered .room in let q = at-most in (omega arith, q)
 
   module _ (i : ℕ) (h : i < count) where
     entry-stored : i < length (take most (chain f))
-    entry-stored = let q = few in stored-has f offsets _ s i (omega (arith, m .count-is, numbers .0)) (omega arith)
+    entry-stored = let q = at-most in stored-has f offsets _ s i (omega (arith, m .count-is, numbers .0)) (omega arith)
 
     state-at : getD (states (m .found)) i 0 ≡ getD f (statePlace offset i) 0
     unfolding states
@@ -226,10 +226,10 @@ module _ (f offsets : List ℕ) (offset count : ℕ) (t : Bytes f) (s : Indexed 
         let r = manifest-numbered .room in
         let k = entry-stored in
         let n = stored-few f offsets _ s .1 in
-        let q = few in
+        let q = at-most in
         record {
           stored = omega arith;
-          few = omega arith;
+          at-most = omega arith;
           link-is =
               ap (λ (ls : List Link). getD ls i noLink) (numbers .1 .0) ∙ getD-take (length b) (chain f) i noLink (omega (arith, m .count-is));
           numbered = numbered-at f offsets _ s i entry-stored;

@@ -28,7 +28,7 @@ fn candidate(file: &[u8], offsets: &[u64], n: usize, i: usize, p: usize) -> bool
 // Down from the last multiple of 64 that has 64 bytes after it, by 64. The offsets of the chain's first links rise,
 // so a number k that only goes down tells whether a link begins at a boundary; only there is more than that looked
 // at.
-fn search(file: &[u8], offsets: &[u64], n: usize) -> Opened
+fn find_from_end(file: &[u8], offsets: &[u64], n: usize) -> Opened
     requires { ⌜ (Stored (now file) (now offsets) n) × ((most ≤ length (now offsets))
         × (length (now file) ≤ maxFile)) ⌝ }
     ensures { λ r. ⌜ r ≡ foundCase (now (file .entry)) (opened (now (file .entry))) ⌝ }
@@ -72,7 +72,7 @@ pub fn open_with(file: &[u8], offsets: &mut [u64]) -> Opened
         return Opened::Refused(1);
     }
     let n = segment::index::collect(file, offsets);
-    search(file, offsets, n)
+    find_from_end(file, offsets, n)
 }
 
 // The file's manifest.

@@ -48,8 +48,8 @@ hitOf l none = Missing
 hitOf l (some p) = Held l p
 
 -- 'Each segment is checked whole first': its hash, then its payload, then the id is looked for
-unfoldable pub lookIn : ℕ → Link → Hit
-lookIn id l = cond (whole l) (cond (eqb (checkOf (l .payload)) 0) (hitOf l (findIn (l .payload) id)) (Bad (checkOf (l .payload)))) (Bad 4)
+unfoldable pub hitInSegment : ℕ → Link → Hit
+hitInSegment id l = cond (whole l) (cond (eqb (checkOf (l .payload)) 0) (hitOf l (findIn (l .payload) id)) (Bad (checkOf (l .payload)))) (Bad 4)
 
 unfoldable pub orElse : Hit → Hit → Hit
 orElse (Held l p) h = Held l p
@@ -59,7 +59,7 @@ orElse (Bad n) h = Bad n
 -- 'The first bad one refuses; the first that holds the id answers'
 unfoldable pub searchIn : ℕ → List Link → Hit
 searchIn id [] = Missing
-searchIn id (l ∷ ls) = orElse (lookIn id l) (searchIn id ls)
+searchIn id (l ∷ ls) = orElse (hitInSegment id l) (searchIn id ls)
 
 unfoldable pub hitFound : ℕ → Option (Found Link) → Hit
 hitFound id none = Bad 2

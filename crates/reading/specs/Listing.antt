@@ -32,7 +32,7 @@ checkWord ok = cond ok (ascii " ok\n") (ascii " bad\n")
 
 -- 'decimal id, type, offset and payload length', the state's word, the check
 unfoldable pub line : ℕ → ℕ → ℕ → ℕ → List ℕ → Bool → List ℕ
-line id kind offset long word ok = column id ++ (column kind ++ (column offset ++ (column long ++ (word ++ checkWord ok))))
+line id kind offset len word ok = column id ++ (column kind ++ (column offset ++ (column len ++ (word ++ checkWord ok))))
 
 -- the line of a segment
 unfoldable pub lineOf : Link → List ℕ → List ℕ

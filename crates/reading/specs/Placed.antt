@@ -14,9 +14,9 @@ use lib.Seq.{drop-drop}
 use Rattle.answers.specs.limits.Limits.{maxFile}
 use Rattle.segment.specs.chain.Laws.{all-append, all-map}
 use Rattle.segment.specs.chain.Chain.{All, Found, openOf}
-use Rattle.segment.specs.chain.Last.{Stands, last-stands}
+use Rattle.segment.specs.chain.Last.{LastIn, last-stands}
 use Rattle.segment.specs.Header.{Link, whole}
-use Rattle.segment.specs.Laws.{linkFront, Lies, lies}
+use Rattle.segment.specs.Laws.{linkFront, LinkRead, lies}
 use Rattle.segment.specs.Chained.{chain}
 use Rattle.manifest.specs.Payload.{confirmed}
 use Rattle.manifest.specs.Opening.{opened, states, atOpened}
@@ -33,7 +33,7 @@ use Rattle.reading.specs.Part.{InFile}
 lying-in : (f : List ℕ) (l : Link) → Lying f l → InFile f l
 unfolding linkFront
 lying-in f l y =
-    let z : Lies (y .state) (drop (l .offset) f) l = lies (y .state) (drop (l .offset) f) l (y .reads) in
+    let z : LinkRead (y .state) (drop (l .offset) f) l = lies (y .state) (drop (l .offset) f) l (y .reads) in
     let fits = z .fits in
     let room = z .room in
     let n = length-drop (l .offset) f in
@@ -86,7 +86,7 @@ module _ (P : Link → Type 0) where
 pub before-in : (f : List ℕ) (r : Found Link) → opened f ≡ some r → All (InFile f) (r .before)
 unfolding opened openOf
 before-in f r e =
-    let s : Stands confirmed (chain f) r = last-stands confirmed (chain f) r e in
+    let s : LastIn confirmed (chain f) r = last-stands confirmed (chain f) r e in
     all-map (Lying f) (InFile f) (lying-in f) (r .before) (chain-lying f (r .before) (r .link ∷ s .rest) (s .split))
 
 pub live-in : (f : List ℕ) (r : Found Link) → opened f ≡ some r → All (InFile f) (live r)

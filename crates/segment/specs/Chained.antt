@@ -12,7 +12,7 @@ use Rattle.segment.specs.chain.Laws.{afters, sizes}
 use Rattle.segment.specs.chain.Walk.{Walked, stateAfter, walk-cons, walk-at, walked-first, walked-next, walked-state, walked-link, walked-stop, walked-all, walked-room}
 use Rattle.segment.specs.declared.Step.the-variants.{Sound, Stop}
 use Rattle.segment.specs.Header.{Link, State, start, reader, linkAt, size, after}
-use Rattle.segment.specs.Laws.{segment-format, linkFront, afters-at, Lies, lies}
+use Rattle.segment.specs.Laws.{segment-format, linkFront, afters-at, LinkRead, lies}
 use Rattle.segment.specs.Step.{stateAt, stepOf, stepAt}
 
 -- the links of a file
@@ -54,7 +54,7 @@ module _ (f : List ℕ) (at : ℕ) (first : Bool) (prev : ℕ) where
       go : (o : Option Link) → linkAt (stateAt at first prev) (drop at f) ≡ o → stepOf o ≡ Sound end id len kind flags → Stepped f at first prev end id len kind flags
       go none h q = absurd (stop-sound end id len kind flags (sym q))
       go (some l) h q =
-          let y : Lies (stateAt at first prev) (drop at f) l = lies (stateAt at first prev) (drop at f) l h in
+          let y : LinkRead (stateAt at first prev) (drop at f) l = lies (stateAt at first prev) (drop at f) l h in
           let p = fields l end id len kind flags (sym q) in
           let o : l .offset ≡ at = ap (λ (l : Link). l .offset) (y .link-is) in
           let z : end ≡ l .offset + size l = p .0 in

@@ -79,7 +79,7 @@ linkFront at s =
       payload = take (lengthIn s) (drop 64 s);
     }
 
-pub record Lies (st : State) (s : List ℕ) (l : Link) : Type 0 where
+pub record LinkRead (st : State) (s : List ℕ) (l : Link) : Type 0 where
   pub fits : size l ≤ length s
   pub room : 64 + length (l .payload) ≤ size l
   pub length-is : length (l .payload) ≡ lengthIn s
@@ -110,7 +110,7 @@ link-front at s n h =
       part-front 64 (lengthIn s) n s h,
     )
 
-pub lies : (st : State) (s : List ℕ) (l : Link) → linkAt st s ≡ some l → Lies st s l
+pub lies : (st : State) (s : List ℕ) (l : Link) → linkAt st s ≡ some l → LinkRead st s l
 unfolding sizeAt size sound linkFront
 lies st s l e =
     let p = framed-is 64 sizeAt read size after (lit< tt) at-least size-is e in

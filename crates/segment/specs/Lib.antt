@@ -7,9 +7,9 @@ pub mod Readback
 pub mod Search
 pub mod Step
 pub mod Tests
-pub mod Ways
 pub mod Written
 pub mod chain
 pub mod index
 pub mod write
 pub mod WrittenLaws
+pub mod HeaderLaws

@@ -80,8 +80,8 @@ module _ (st : State) (kind flags id timestamp : ℕ) (payload : List ℕ) (f : 
   unfolding segment
   behind = rw append-assoc (drop-at head (payload ++ padding payload) 64 (header-length kind flags id timestamp payload))
 
-  long : lengthIn head ≡ length payload
-  long = length-at kind flags id timestamp payload (f .length-fits)
+  length-is : lengthIn head ≡ length payload
+  length-is = length-at kind flags id timestamp payload (f .length-fits)
 
   zeros : allZero (drop (64 + length payload) seg) ≡ true
   unfolding padding
@@ -91,7 +91,7 @@ module _ (st : State) (kind flags id timestamp : ℕ) (payload : List ℕ) (f : 
 
   seg-sound : sound (st .least) seg ≡ true
   unfolding sound
-  seg-sound = rw (front, head-sound kind flags id timestamp payload (st .least) f, long, zeros)
+  seg-sound = rw (front, head-sound kind flags id timestamp payload (st .least) f, length-is, zeros)
 
   seg-link : linkIn (st .at) seg ≡ linkOf (st .at) kind flags id timestamp payload
   unfolding linkIn linkOf
@@ -103,14 +103,14 @@ module _ (st : State) (kind flags id timestamp : ℕ) (payload : List ℕ) (f : 
         id-at kind flags id timestamp payload (f .id-fits),
         timestamp-at kind flags id timestamp payload (f .timestamp-fits),
         hash-at kind flags id timestamp payload,
-        long,
+        length-is,
         behind,
         take-append-seam payload (padding payload),
       )
 
   seg-size : sizeAt (take 64 seg) ≡ length seg
   unfolding sizeAt
-  seg-size = rw (front, long, segment-length kind flags id timestamp payload)
+  seg-size = rw (front, length-is, segment-length kind flags id timestamp payload)
 
   -- what is written is read back, alone and before any bytes
   pub read-segment : linkAt st seg ≡ some (linkOf (st .at) kind flags id timestamp payload)

@@ -19,7 +19,7 @@ use Rattle.segment.specs.chain.Chain.{framed}
 use Rattle.segment.specs.declared.Step.{Step}
 use Rattle.segment.specs.declared.Step.the-variants.{Sound, Stop}
 use Rattle.segment.specs.Header.{Link, State, linkAt, size, hashIn, contentHash, read, sizeAt, sound, headSound, lengthIn, idIn, kindIn, flagsIn, whole}
-use Rattle.segment.specs.Laws.{linkFront, link-front, number-front, Lies, lies}
+use Rattle.segment.specs.Laws.{linkFront, link-front, number-front, LinkRead, lies}
 use Rattle.octets.specs.numbers.Numbers.{leastNext}
 
 -- what the link at a place is read with
@@ -129,7 +129,7 @@ whole-by f at len r hash p q =
 pub whole-link : (f : List ℕ) (st : State) (at : ℕ) (l : Link) → linkAt st (drop at f) ≡ some l → whole l ≡ wholeAt f at (length (l .payload))
 unfolding whole wholeAt linkFront
 whole-link f st at l e =
-    let y : Lies st (drop at f) l = lies st (drop at f) l e in
+    let y : LinkRead st (drop at f) l = lies st (drop at f) l e in
     let p : l .payload ≡ take (length (l .payload)) (drop (at + 64) f) =
     ap (λ (l : Link). l .payload) (y .link-is) ∙ ap (λ (n : ℕ). take n (drop 64 (drop at f))) (sym (y .length-is)) ∙ rw drop-drop in
     let h : l .hash ≡ hashIn (drop at f) = ap (λ (l : Link). l .hash) (y .link-is) in

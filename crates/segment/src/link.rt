@@ -20,11 +20,11 @@ pub fn link_at(file: &[u8], at: usize, first: bool, prev: u64) -> Step
     let room = left - 64;
     let body = at + 64;
     let head = &file[at..body];
-    let long = octets::le::u64_at(head, crate::fields::LENGTH);
-    if long > room as u64 {
+    let declared = octets::le::u64_at(head, crate::fields::LENGTH);
+    if declared > room as u64 {
         return Step::Stop;
     }
-    let length = long as usize;
+    let length = declared as usize;
     let padded = octets::round_up(length);
     if room < padded {
         return Step::Stop;

@@ -63,7 +63,7 @@ module _ (s : List ℕ) (id : ℕ) (buf : List ℕ) where
           let c : w .place .line .count * w .place .line .dim * width (w .place .line .dtype) ≡ count * dim * width dtype = rw (w .count-is, w .dim-is, w .dtype-is) in
           record {
             most = omega (arith, g .line .most, w .count-is);
-            few = omega (arith, g .line .few, w .dim-is);
+            at-most = omega (arith, g .line .at-most, w .dim-is);
             small = width-most dtype;
             room = omega (arith, g .room, w .offset-is, c);
             index-in = omega (arith, g .index-in, w .index-is, w .count-is);

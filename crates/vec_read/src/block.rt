@@ -27,15 +27,15 @@ pub fn is_filled(s: &[u8], at: usize) -> bool
 
 // The block at the front of what is left of a payload. Its ids go to a list of our own; the check itself keeps none
 // of them.
-pub fn check_block(s: &[u8], count: usize, dim: usize, dtype: u8, own: &mut [u64]) -> Block
-    requires { ⌜ (1 ≤ count) × ((count ≤ maxVectors) × ((count ≤ length (now own)) × (dim ≤ maxDim))) ⌝ }
+pub fn check_block(s: &[u8], count: usize, dim: usize, dtype: u8, scratch: &mut [u64]) -> Block
+    requires { ⌜ (1 ≤ count) × ((count ≤ maxVectors) × ((count ≤ length (now scratch)) × (dim ≤ maxDim))) ⌝ }
     ensures { λ r. ⌜ r ≡ blockAnswer (blockOf (lineWith count dim dtype) (now (s .entry))) ⌝ }
 {
     let columns = count * dim * crate::width::width_of(dtype as u64);
     if s.len() < columns {
         return Block::Refused(5);
     }
-    let m = idmap_read::decode::decode(&s[columns..], count, own);
+    let m = idmap_read::decode::decode(&s[columns..], count, scratch);
     match m {
         Wrote::Refused(number) => return Block::Refused(number),
         Wrote::Length(n) => {

@@ -8,8 +8,8 @@ use crate::block::Block;
 
 // The blocks of a payload whose directory is good, from start on; each is handed over as the part of the payload from
 // its place.
-fn check_blocks(s: &[u8], blocks: usize, start: usize, own: &mut [u64]) -> u32
-    requires { ⌜ (4 + 12 * blocks ≤ length (now s)) × ((start ≤ length (now s)) × (maxVectors ≤ length (now own))) ⌝ }
+fn check_blocks(s: &[u8], blocks: usize, start: usize, scratch: &mut [u64]) -> u32
+    requires { ⌜ (4 + 12 * blocks ≤ length (now s)) × ((start ≤ length (now s)) × (maxVectors ≤ length (now scratch))) ⌝ }
     requires { ⌜ linesBad blocks (drop 4 (now s)) ≡ 0 ⌝ }
     ensures { λ r. ⌜ r ≡ blocksBad blocks start (drop 4 (now (s .entry))) (now (s .entry)) ⌝ }
 {
@@ -22,7 +22,7 @@ fn check_blocks(s: &[u8], blocks: usize, start: usize, own: &mut [u64]) -> u32
         }
         let count = octets::le::u32_at(s, line + 4) as usize;
         let dim = octets::le::u16_at(s, line + 8) as usize;
-        let b = crate::block::check_block(&s[at..], count, dim, s[line + 10], own);
+        let b = crate::block::check_block(&s[at..], count, dim, s[line + 10], scratch);
         match b {
             Block::Refused(e) => return e,
             Block::Sound(k) => {
@@ -59,6 +59,6 @@ pub fn check(s: &[u8]) -> u32
     if !crate::block::is_filled(s, end) {
         return 5;
     }
-    let mut own = [0u64; answers::limits::MAX_VECTORS];
-    check_blocks(s, blocks, octets::round_up(end), &mut own)
+    let mut scratch = [0u64; answers::limits::MAX_VECTORS];
+    check_blocks(s, blocks, octets::round_up(end), &mut scratch)
 }

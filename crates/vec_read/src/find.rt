@@ -26,8 +26,8 @@ pub enum Found {
 }
 
 // The search with a list of our own for the ids of a block.
-pub fn find_with(s: &[u8], id: u64, own: &mut [u64]) -> Found
-    requires { ⌜ (checkOf (now s) ≡ 0) × (maxVectors ≤ length (now own)) ⌝ }
+pub fn find_with(s: &[u8], id: u64, scratch: &mut [u64]) -> Found
+    requires { ⌜ (checkOf (now s) ≡ 0) × (maxVectors ≤ length (now scratch)) ⌝ }
     ensures { λ r. ⌜ r ≡ foundOf (findIn (now (s .entry)) id) ⌝ }
 {
     let mut j = octets::le::u32_at(s, 0) as usize;
@@ -38,11 +38,11 @@ pub fn find_with(s: &[u8], id: u64, own: &mut [u64]) -> Found
         let dim = octets::le::u16_at(s, line + 8) as usize;
         let dtype = s[line + 10];
         let start = offset + count * dim * crate::width::width_of(dtype as u64);
-        let m = idmap_read::decode::decode(&s[start..], count, own);
+        let m = idmap_read::decode::decode(&s[start..], count, scratch);
         match m {
             Wrote::Refused(number) => return Found::Refused(number),
             Wrote::Length(_) => {
-                let place = octets::numbers::index_of(own, count, id);
+                let place = octets::numbers::index_of(scratch, count, id);
                 match place {
                     Index::Place(index) => {
                         return Found::At {
@@ -68,6 +68,6 @@ pub fn find(s: &[u8], id: u64) -> Found
     requires { ⌜ checkOf (now s) ≡ 0 ⌝ }
     ensures { λ r. ⌜ r ≡ foundOf (findIn (now (s .entry)) id) ⌝ }
 {
-    let mut own = [0u64; answers::limits::MAX_VECTORS];
-    find_with(s, id, &mut own)
+    let mut scratch = [0u64; answers::limits::MAX_VECTORS];
+    find_with(s, id, &mut scratch)
 }

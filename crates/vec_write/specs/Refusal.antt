@@ -9,7 +9,7 @@ use lib.Dec.{eqb}
 use lib.ListN.{length}
 use borrow.Author.Tests.{le-leb, lt-leb, lt-ltb, le-ltb, eq-eqb, ne-eqb}
 use Rattle.idmap.specs.Encode.{mapBad}
-use Rattle.idmap_write.specs.refusal.Ways as map
+use Rattle.idmap_write.specs.refusal.RefusalLaws as map
 use Rattle.vecseg.specs.Payload.{width}
 use Rattle.vecseg.specs.Writer.{vecBad}
 

@@ -136,12 +136,12 @@ block-number l s e p = pick (leb (columnsLength l) (length s)) (mapOf (l .count)
 -- ---- where the loop over the blocks stands: i are passed, and the next is to begin at `at`
 
 pub record BlocksAt (s : List ℕ) (n start i at : ℕ) : Type 0 where
-  pub few : i ≤ n
+  pub at-most : i ≤ n
   pub inside : at ≤ length s
   pub same : blocksBad (n - i) at (drop (4 + 12 * i) s) s ≡ blocksBad n start (drop 4 s) s
 
 pub blocks-first : (s : List ℕ) (n start : ℕ) → start ≤ length s → BlocksAt s n start 0 start
-blocks-first s n start h = let e : n - 0 ≡ n = omega arith in record { few = omega arith; inside = h; same = rw e }
+blocks-first s n start h = let e : n - 0 ≡ n = omega arith in record { at-most = omega arith; inside = h; same = rw e }
 
 module _ (s : List ℕ) (n start i at : ℕ) (st : BlocksAt s n start i at) (h : i < n) where
   fuel : n - i ≡ suc (n - (i + 1))
@@ -167,13 +167,13 @@ module _ (s : List ℕ) (n start i at : ℕ) (st : BlocksAt s n start i at) (h :
         let e : 4 + 12 * i + 12 ≡ 4 + 12 * (i + 1) = omega arith in
         let one : blocksBad (n - i) at (drop (4 + 12 * i) s) s ≡ blocksBad (n - (i + 1)) (at + k) (drop (4 + 12 * (i + 1)) s) s =
         rw fuel (rw (eq-eqb (lineOf (drop (4 + 12 * i) s) .offset) at here, p, blocksBad) (rw (drop-drop 12 (4 + 12 * i) s, e))) in
-        record { few = omega arith; inside = omega (arith, block-good _ (drop at s) k p .fits, length-drop at s); same = sym one ∙ st .same }
+        record { at-most = omega arith; inside = omega (arith, block-good _ (drop at s) k p .fits, length-drop at s); same = sym one ∙ st .same }
 
 module _ (s : List ℕ) (n start i at : ℕ) (st : BlocksAt s n start i at) (h : n ≤ i) where
   done : blocksBad (n - i) at (drop (4 + 12 * i) s) s ≡ cond (eqb (length s) at) 0 5
   unfolding blocksBad
   done =
-      let few = st .few in
+      let at-most = st .at-most in
       let e : n - i ≡ 0 = omega arith in
       rw e
 

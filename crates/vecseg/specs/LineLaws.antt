@@ -89,21 +89,21 @@ module _ (l : Line) where
     unfolding lineBad
     line-dim-over h = rw (le-leb 1 (l .count) one, le-leb (l .count) 4096 most, le-leb 1 (l .dim) (omega arith), lt-leb (l .dim) 1024 h)
 
-    module _ (some : 1 ≤ l .dim) (few : l .dim ≤ 1024) where
+    module _ (some : 1 ≤ l .dim) (at-most : l .dim ≤ 1024) where
       pub line-dtype : width (l .dtype) ≡ 0 → 6 ≡ lineBad l
       unfolding lineBad
-      line-dtype e = rw (le-leb 1 (l .count) one, le-leb (l .count) 4096 most, le-leb 1 (l .dim) some, le-leb (l .dim) 1024 few, e)
+      line-dtype e = rw (le-leb 1 (l .count) one, le-leb (l .count) 4096 most, le-leb 1 (l .dim) some, le-leb (l .dim) 1024 at-most, e)
 
       pub line-good : 0 < width (l .dtype) → 0 ≡ lineBad l
       unfolding lineBad
-      line-good h = rw (le-leb 1 (l .count) one, le-leb (l .count) 4096 most, le-leb 1 (l .dim) some, le-leb (l .dim) 1024 few, lt-ltb 0 (width (l .dtype)) h)
+      line-good h = rw (le-leb 1 (l .count) one, le-leb (l .count) 4096 most, le-leb 1 (l .dim) some, le-leb (l .dim) 1024 at-most, lt-ltb 0 (width (l .dtype)) h)
 
 -- what an accepted line says
 pub record LineGood (l : Line) : Type 0 where
   pub one : 1 ≤ l .count
   pub most : l .count ≤ 4096
   pub some : 1 ≤ l .dim
-  pub few : l .dim ≤ 1024
+  pub at-most : l .dim ≤ 1024
   pub held : 0 < width (l .dtype)
 
 pub line-accepted : (l : Line) → lineBad l ≡ 0 → LineGood l
@@ -122,7 +122,7 @@ line-accepted l e = pick (leb 1 (l .count) && leb (l .count) maxVectors && leb 1
           one = leb-true 1 (l .count) (c .0);
           most = leb-true (l .count) 4096 (c .1);
           some = leb-true 1 (l .dim) (b .1);
-          few = leb-true (l .dim) 1024 (a .1);
+          at-most = leb-true (l .dim) 1024 (a .1);
           held = ltb-true 0 (width (l .dtype)) q;
         }
 
@@ -145,11 +145,11 @@ first-zero (suc a) b e = absurd (omega arith)
 -- ---- where the loop over the lines stands: i are passed
 
 pub record LinesAt (s : List ℕ) (n i : ℕ) : Type 0 where
-  pub few : i ≤ n
+  pub at-most : i ≤ n
   pub same : linesBad (n - i) (drop (4 + 12 * i) s) ≡ linesBad n (drop 4 s)
 
 pub lines-first : (s : List ℕ) (n : ℕ) → LinesAt s n 0
-lines-first s n = let e : n - 0 ≡ n = omega arith in record { few = omega arith; same = rw e }
+lines-first s n = let e : n - 0 ≡ n = omega arith in record { at-most = omega arith; same = rw e }
 
 module _ (s : List ℕ) (n i : ℕ) (st : LinesAt s n i) (h : i < n) where
   turn : linesBad (n - i) (drop (4 + 12 * i) s) ≡ firstOf (lineBad (lineOf (drop (4 + 12 * i) s))) (linesBad (n - (i + 1)) (drop (4 + 12 * (i + 1)) s))
@@ -160,7 +160,7 @@ module _ (s : List ℕ) (n i : ℕ) (st : LinesAt s n i) (h : i < n) where
       rw (fuel, drop-drop, e)
 
   pub lines-next : lineBad (lineOf (drop (4 + 12 * i) s)) ≡ 0 → LinesAt s n (i + 1)
-  lines-next z = record { few = omega arith; same = sym (first-none _ _ z) ∙ sym turn ∙ st .same }
+  lines-next z = record { at-most = omega arith; same = sym (first-none _ _ z) ∙ sym turn ∙ st .same }
 
   pub lines-stop : (b : ℕ) → b ≡ lineBad (lineOf (drop (4 + 12 * i) s)) → (b ≡ 0 → ⊥) → b ≡ linesBad n (drop 4 s)
   lines-stop b e nz = e ∙ sym (first-bad _ _ (λ z. nz (e ∙ z))) ∙ sym turn ∙ st .same
@@ -175,7 +175,7 @@ module _ (s : List ℕ) (n i : ℕ) (st : LinesAt s n i) (h : i < n) where
 pub lines-last : (s : List ℕ) (n i : ℕ) → LinesAt s n i → n ≤ i → 0 ≡ linesBad n (drop 4 s)
 unfolding linesBad
 lines-last s n i st h =
-    let few = st .few in
+    let at-most = st .at-most in
     let e : n - i ≡ 0 = omega arith in
     let one : linesBad (n - i) (drop (4 + 12 * i) s) ≡ 0 = rw e in
     sym one ∙ st .same

@@ -79,7 +79,7 @@ empty-end old h =
 
 -- ---- a body of 100 bytes instead
 
-module _ (body : List ℕ) (long : length body ≡ 100) where
+module _ (body : List ℕ) (length-is : length body ≡ 100) where
   whole-length : length (oneBody body) ≡ 132
   whole-length = omega arith
 

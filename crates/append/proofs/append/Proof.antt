@@ -11,7 +11,7 @@ use lib.Seq.{length-take-le}
 use borrow.Author.Tests.{not-true, not-false}
 use Rattle.octets.specs.le.Laws.{bytes-take}
 use Rattle.manifest.specs.Opening.{opened}
-use Rattle.append.specs.Ways.{way-room, way-limit, way-none, way-batch, taken-held, way-retire, way-done}
+use Rattle.append.specs.AppendLaws.{way-room, way-limit, way-none, way-batch, taken-held, way-retire, way-done}
 use Rattle.append.specs.Begins.{base-empty, states-empty, retire-none, retire-some, front-opens, base-later, states-later}
 use borrow.Author.Needs.{needs}
 use Rattle.append.proofs.append.Statement.{statement}
@@ -90,8 +90,8 @@ returns-5 c =
     (omega (arith, e2 .before .if1 .left)) (omega (arith, e2 .if2 .left)) (λ z. omega (arith, e3 .if3 .left))
     (sym (c .before .before .batch-number .ensures) ∙ c .before .if4 .left) (retire-some _ (none-found (e3 .before)) _ (omega (arith, c .if5 .taken)))
 
-finish-requires : tie.Need-finish-requires
-finish-requires c κs =
+commit-requires : tie.Need-commit-requires
+commit-requires c κs =
     let e4 = c .before .before .before .before in
     let e3 = e4 .before .before in
     let ow = e3 .before .before .before .before in
@@ -136,8 +136,8 @@ returns-7 c =
     (omega (arith, e2 .before .if1 .left)) (omega (arith, e2 .if2 .left)) (begins f)
     (sym (e6 .before .batch-number2 .ensures) ∙ e6 .if6 .left) (sym (c .before .before .retire-states .ensures .0) ∙ not-true _ (c .if7 .taken))
 
-add-finish : tie.Need-add-finish
-add-finish c =
+add-commit : tie.Need-add-commit
+add-commit c =
     let f = c .before .before .before .before .before .before .before .before .before .before in
     let ow = ow f in
     omega (
@@ -146,8 +146,8 @@ add-finish c =
           (omega (arith, ow .open-with .kept .1 .0)) (found f) .1,
     )
 
-finish-requires-2 : tie.Need-finish-requires-2
-finish-requires-2 c κs =
+commit-requires-2 : tie.Need-commit-requires-2
+commit-requires-2 c κs =
     let rs = c .before .before .before .before .before in
     let e6 = rs .before .before .before .before in
     let f = e6 .before .before .before in
@@ -185,7 +185,7 @@ returns-9 c =
     way-done (s .args .buf .now) (s .args .n) (s .args .batch .now) (s .args .ids .now) (s .args .timestamp)
     (omega (arith, e2 .before .if1 .left)) (omega (arith, e2 .if2 .left)) (λ z. omega (arith, e3 .if3 .left))
     (sym (e5 .before .before .batch-number .ensures) ∙ e5 .before .if4 .left) (retire-none _ nf _ (omega (arith, e5 .if5 .left)))
-    _ _ _ _ (ap (λ (k : ℕ). opened (take k (s .args .buf .now))) z) (f .finish .ensures .0) (f .finish .ensures .1) (states-empty _ nf _ _)
+    _ _ _ _ (ap (λ (k : ℕ). opened (take k (s .args .buf .now))) z) (f .commit .ensures .0) (f .commit .ensures .1) (states-empty _ nf _ _)
 
 returns-10 : tie.Need-returns-10
 returns-10 c =
@@ -203,7 +203,7 @@ returns-10 c =
     (sym (rs .retire-states .ensures .0) ∙ not-false _ (e7 .if7 .left)) _ _ _ _
     (front-opens _ (s .args .buf .now) _ (s .args .n) _ _ _ _ refl (omega (arith, e2 .before .if1 .left)) (bytes f)
     (ow .open-with .ensures .1 (found f .within)) (omega (arith, ow .open-with .kept .1 .0)) (found f) (ends .0) (ends .1))
-    (fi .finish2 .ensures .0) (fi .finish2 .ensures .1)
+    (fi .commit2 .ensures .0) (fi .commit2 .ensures .1)
     (states-later _ (s .args .buf .now) _ (s .args .n) _ _ _ _ refl (omega (arith, e2 .before .if1 .left)) (bytes f)
     (ow .open-with .ensures .1 (found f .within)) (omega (arith, ow .open-with .kept .1 .0)) (found f) (ends .0) (ends .1)
     _ _ _ (rs .retire-states .ensures .1 (not-false _ (e7 .if7 .left))))
@@ -214,7 +214,7 @@ append-spec =
     (tie.spec
     returns returns-2 (search needs) slice-aggregate-open-with (search needs) (search needs) (search needs)
     (search needs) (search needs) returns-3 (search needs) (search needs) returns-4 (search needs) returns-5
-    (search needs) (search needs) finish-requires (search needs) (search needs) (search needs) returns-6
+    (search needs) (search needs) commit-requires (search needs) (search needs) (search needs) returns-6
     (search needs) slice-aggregate-retire-states (search needs) (search needs) retire-states-requires
-    (search needs) returns-7 add-finish (search needs) (search needs) finish-requires-2 (search needs) returns-8
+    (search needs) returns-7 add-commit (search needs) (search needs) commit-requires-2 (search needs) returns-8
     (search needs) returns-9 (search needs) returns-10)

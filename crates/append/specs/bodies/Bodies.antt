@@ -45,20 +45,20 @@ offsets-more at id ts (x ∷ xs) b = ap (λ (l : List ℕ). at ∷ l) (offsets-m
 -- ---- where the loop stands that adds up the sizes: j bodies are passed
 
 pub record EndAt (bs : List Body) (start at j : ℕ) : Type 0 where
-  pub few : j ≤ length bs
+  pub at-most : j ≤ length bs
   pub at-is : bodiesEnd start (take j bs) ≡ at
   pub small : at ≤ start + 4294967424 * j
 
 pub end-first : (bs : List Body) (start : ℕ) → EndAt bs start start 0
 unfolding bodiesEnd
-end-first bs start = record { few = omega arith; at-is = refl; small = omega arith }
+end-first bs start = record { at-most = omega arith; at-is = refl; small = omega arith }
 
 pub end-next : (bs : List Body) (start at j : ℕ) (none : Body) → EndAt bs start at j → j < length bs → length (getD bs j none .payload) < 4294967296
     → (m : ℕ) → m ≡ round64 (length (getD bs j none .payload)) → m < length (getD bs j none .payload) + 64 → EndAt bs start (at + (64 + m)) (j + 1)
 end-next bs start at j none st h k m e l =
     let small = st .small in
     record {
-      few = omega arith;
+      at-most = omega arith;
       at-is =
           ap (λ (n : ℕ). bodiesEnd start (take n bs)) (add-one j)
           ∙ ap (bodiesEnd start) (take-suc bs j none h)
@@ -70,16 +70,16 @@ end-next bs start at j none st h k m e l =
 
 pub end-last : (bs : List Body) (start at j : ℕ) → EndAt bs start at j → length bs ≤ j → at ≡ bodiesEnd start bs
 end-last bs start at j st h =
-    let few = st .few in
+    let at-most = st .at-most in
     let e : j ≡ length bs = omega arith in
     sym (st .at-is) ∙ ap (λ (n : ℕ). bodiesEnd start (take n bs)) e ∙ ap (bodiesEnd start) (take-length bs)
 
 -- ---- where the loop stands that writes: j bodies are written, and their offsets stored
 
 pub record BodiesPut (bs : List Body) (start id ts kept : ℕ) (buf₀ buf os₀ os : List ℕ) (at j : ℕ) : Type 0 where
-  pub few : j ≤ length bs
+  pub at-most : j ≤ length bs
   pub at-is : bodiesEnd start (take j bs) ≡ at
-  pub long : length buf ≡ length buf₀
+  pub same-length : length buf ≡ length buf₀
   pub laid : buf ≡ over buf₀ start (bodyBytes id ts (take j bs))
   pub many : length os ≡ length os₀
   pub stored : os ≡ over os₀ kept (offsetsOf (bodyLinks start id ts (take j bs)))
@@ -87,7 +87,7 @@ pub record BodiesPut (bs : List Body) (start id ts kept : ℕ) (buf₀ buf os₀
 pub put-first : (bs : List Body) (start id ts kept : ℕ) (buf os : List ℕ) → BodiesPut bs start id ts kept buf buf os os start 0
 unfolding bodiesEnd bodyBytes bodyLinks
 put-first bs start id ts kept buf os =
-    record { few = omega arith; at-is = refl; long = refl; laid = sym (over-none buf start); many = refl; stored = sym (over-none os kept) }
+    record { at-most = omega arith; at-is = refl; same-length = refl; laid = sym (over-none buf start); many = refl; stored = sym (over-none os kept) }
 
 module _ (bs : List Body) (start id ts kept : ℕ) (buf₀ buf os₀ os : List ℕ) (at j : ℕ) (st : BodiesPut bs start id ts kept buf₀ buf os₀ os at j) (h : j < length bs) (none : Body)
     (room : bodiesEnd start bs ≤ length buf₀) where
@@ -113,7 +113,7 @@ module _ (bs : List Body) (start id ts kept : ℕ) (buf₀ buf os₀ os : List �
   put-room =
       let e : bodiesEnd start bs ≡ bodiesEnd (at + bodySize b) (drop (j + 1) bs) =
       ap (bodiesEnd start) (sym (take-append-drop (j + 1) bs)) ∙ end-split (take (j + 1) bs) (drop (j + 1) bs) start ∙ ap (λ (n : ℕ). bodiesEnd n (drop (j + 1) bs)) end-is in
-      omega (arith, bodiesEnd-ge (at + bodySize b) (drop (j + 1) bs), st .long)
+      omega (arith, bodiesEnd-ge (at + bodySize b) (drop (j + 1) bs), st .same-length)
 
   bytes-long : length (bodyBytes id ts (take j bs)) ≡ at - start
   bytes-long = omega (arith, bodies-length ts start id (take j bs), st .at-is)
@@ -132,7 +132,7 @@ module _ (bs : List Body) (start id ts kept : ℕ) (buf₀ buf os₀ os : List �
       let bytes : bodyBytes id ts (take (j + 1) bs) ≡ bodyBytes id ts (take j bs) ++ seg =
       ap (bodyBytes id ts) more ∙ bytes-more id ts (take j bs) b ∙ ap (λ (i : ℕ). bodyBytes id ts (take j bs) ++ segment (b .kind) (b .flags) (id + i) ts (b .payload)) taken ∙ ap (λ (s : List ℕ). bodyBytes id ts (take j bs) ++ s) (sym e) in
       let two : over buf (start + (at - start)) seg ≡ over buf₀ start (bodyBytes id ts (take j bs) ++ seg) =
-      over-then buf₀ buf start (bodyBytes id ts (take j bs)) seg (at - start) (st .laid) bl (omega (arith, st .long)) in
+      over-then buf₀ buf start (bodyBytes id ts (take j bs)) seg (at - start) (st .laid) bl (omega (arith, st .same-length)) in
       let laid : buf′ ≡ over buf₀ start (bodyBytes id ts (take (j + 1) bs)) = p ∙ ap (λ (n : ℕ). over buf n seg) (sym at-eq) ∙ two ∙ ap (over buf₀ start) (sym bytes) in
       let ol : length (offsetsOf (bodyLinks start id ts (take j bs))) ≡ j = length-map (bodyLinks start id ts (take j bs)) (λ (l : Link). l .offset) ∙ bodyLinks-length start id ts (take j bs) ∙ taken in
       let stored : set os (kept + j) at ≡ over os₀ kept (offsetsOf (bodyLinks start id ts (take (j + 1) bs))) =
@@ -140,9 +140,9 @@ module _ (bs : List Body) (start id ts kept : ℕ) (buf₀ buf os₀ os : List �
       ∙ ap (λ (n : ℕ). over os₀ kept (offsetsOf (bodyLinks start id ts (take j bs)) ++ (n ∷ []))) (sym (st .at-is))
       ∙ ap (over os₀ kept) (sym (ap (λ (x : List Body). offsetsOf (bodyLinks start id ts x)) more ∙ offsets-more start id ts (take j bs) b)) in
       record {
-        few = omega arith;
+        at-most = omega arith;
         at-is = end-is ∙ omega arith;
-        long = ap length p ∙ length-over buf at seg (omega arith) ∙ st .long;
+        same-length = ap length p ∙ length-over buf at seg (omega arith) ∙ st .same-length;
         laid = laid;
         many = length-set os (kept + j) at ∙ st .many;
         stored = stored;
@@ -151,7 +151,7 @@ module _ (bs : List Body) (start id ts kept : ℕ) (buf₀ buf os₀ os : List �
 pub put-last : (bs : List Body) (start id ts kept : ℕ) (buf₀ buf os₀ os : List ℕ) (at j : ℕ) → BodiesPut bs start id ts kept buf₀ buf os₀ os at j → length bs ≤ j
     → (buf ≡ over buf₀ start (bodyBytes id ts bs)) × (os ≡ over os₀ kept (offsetsOf (bodyLinks start id ts bs)))
 put-last bs start id ts kept buf₀ buf os₀ os at j st h =
-    let few = st .few in
+    let at-most = st .at-most in
     let e : j ≡ length bs = omega arith in
     let t : take j bs ≡ bs = ap (λ (n : ℕ). take n bs) e ∙ take-length bs in
     (st .laid ∙ ap (λ (x : List Body). over buf₀ start (bodyBytes id ts x)) t, st .stored ∙ ap (λ (x : List Body). over os₀ kept (offsetsOf (bodyLinks start id ts x))) t)

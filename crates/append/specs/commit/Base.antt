@@ -30,13 +30,13 @@ use Rattle.appending.specs.Append.{keptLinks, startOf, nextId, bodyLinks, bodyB
 use Rattle.appending.specs.Written.{BodyHeld, bodies-exact, bodies-length, bodyLinks-length}
 use Rattle.appending.specs.Opens.{kept}
 use Rattle.appending.specs.Buffer.{kept-is}
-use Rattle.append.specs.commit.Late.{nextOf}
+use Rattle.append.specs.commit.Commit.{nextOf}
 
 -- g is the bytes up to the start
 pub record Base (g offsets : List ℕ) (begin kept-count : ℕ) (first : Bool) (last-id : ℕ) : Type 0 where
   pub whole : length g ≡ begin
   pub small : begin ≤ maxFile
-  pub few : kept-count ≤ 1025
+  pub at-most : kept-count ≤ 1025
   pub start-is : startOf (opened g) ≡ begin
   pub count-is : length (keptLinks (opened g)) ≡ kept-count
   pub next-is : nextId (opened g) ≡ nextOf first last-id

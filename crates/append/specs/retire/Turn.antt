@@ -16,7 +16,7 @@ use Rattle.manifest.specs.Payload.{manifestKind}
 use Rattle.batch.specs.Form.{member}
 use Rattle.append.specs.retire.Marks.{retirableBy, retireHeldBy, retiredBy, Rises}
 use Rattle.append.specs.retire.Held.{held-snoc, held-fails}
-use Rattle.append.specs.retire.Stands.{stands, lacks, retirable-lacks, retirable-stands, retired-stands, state-stands}
+use Rattle.append.specs.retire.Members.{stands, lacks, retirable-lacks, retirable-stands, retired-stands, state-stands}
 
 -- with no ids the states stay
 retired-none : (ns ss : List ℕ) → length ss ≡ length ns → retiredBy ns ss [] ≡ ss
@@ -28,14 +28,14 @@ retired-none (n ∷ ns) (s ∷ ss) h = ap (λ (l : List ℕ). s ∷ l) (retired-
 
 -- j ids of the list are marked, and might be
 pub record MarkAt (ns ks ss₀ ids ss : List ℕ) (j : ℕ) : Type 0 where
-  pub few : j ≤ length ids
-  pub long : length ss ≡ length ss₀
+  pub at-most : j ≤ length ids
+  pub same-length : length ss ≡ length ss₀
   pub held : retireHeldBy ns ks ss₀ (take j ids) ≡ true
   pub marked : ss ≡ retiredBy ns ss₀ (take j ids)
 
 pub mark-first : (ns ks ss ids : List ℕ) → length ss ≡ length ns → MarkAt ns ks ss ids ss 0
 unfolding retireHeldBy
-mark-first ns ks ss ids h = record { few = omega arith; long = refl; held = refl; marked = sym (retired-none ns ss h) }
+mark-first ns ks ss ids h = record { at-most = omega arith; same-length = refl; held = refl; marked = sym (retired-none ns ss h) }
 
 module _ (ns ks ss₀ ids ss : List ℕ) (j : ℕ) (st : MarkAt ns ks ss₀ ids ss j) where
   -- the list is done
@@ -83,8 +83,8 @@ module _ (ns ks ss₀ ids ss : List ℕ) (j : ℕ) (st : MarkAt ns ks ss₀ ids 
       pub mark-next : (getD ks i 0 ≡ 0x05 → ⊥) → getD ss i 0 ≡ 0 → MarkAt ns ks ss₀ ids (set ss i 1) (j + 1)
       mark-next k z =
           record {
-            few = omega arith;
-            long = length-set ss i 1 ∙ st .long;
+            at-most = omega arith;
+            same-length = length-set ss i 1 ∙ st .same-length;
             held = rw (add-one, take-suc ids j 0 h) (next-held ∙ pick (member (getD ids j 0) (take j ids)) state-now);
             marked =
                 rw (add-one, take-suc ids j 0 h)

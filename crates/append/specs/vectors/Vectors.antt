@@ -40,11 +40,11 @@ module _ (s : List ℕ) (j : ℕ) (b : BodyAt s j) where
 -- ---- where the loop over the bodies stands: i are sound
 
 pub record VectorsAt (bs : List Body) (i : ℕ) : Type 0 where
-  pub few : i ≤ length bs
+  pub at-most : i ≤ length bs
   pub same : vectorsBad (drop i bs) ≡ vectorsBad bs
 
 pub vectors-first : (bs : List Body) → VectorsAt bs 0
-vectors-first bs = record { few = omega arith; same = refl }
+vectors-first bs = record { at-most = omega arith; same = refl }
 
 module _ (bs : List Body) (i : ℕ) (st : VectorsAt bs i) (h : i < length bs) where
   turn : vectorsBad (drop i bs) ≡ firstOf (bodyBad (getD bs i noBody)) (vectorsBad (drop (i + 1) bs))
@@ -52,7 +52,7 @@ module _ (bs : List Body) (i : ℕ) (st : VectorsAt bs i) (h : i < length bs) wh
   turn = rw (add-one, drop-cons bs i noBody h)
 
   pub vectors-next : bodyBad (getD bs i noBody) ≡ 0 → VectorsAt bs (i + 1)
-  vectors-next z = record { few = omega arith; same = sym (first-none _ _ z) ∙ sym turn ∙ st .same }
+  vectors-next z = record { at-most = omega arith; same = sym (first-none _ _ z) ∙ sym turn ∙ st .same }
 
   pub vectors-stop : (r : ℕ) → r ≡ bodyBad (getD bs i noBody) → (r ≡ 0 → ⊥) → r ≡ vectorsBad bs
   vectors-stop r e nz = e ∙ sym (first-bad _ _ (λ z. nz (e ∙ z))) ∙ sym turn ∙ st .same

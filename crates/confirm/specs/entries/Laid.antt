@@ -70,13 +70,13 @@ entry-laid buf f b₁ b₂ b₃ b₄ b₅ b₆ b₇ at o state h k p₁ p₂ p�
 -- ---- the loop over the links: i entries are written, right behind the record's head
 
 pub record EntriesPut (buf₀ buf f os ss : List ℕ) (i : ℕ) : Type 0 where
-  pub few : i ≤ length os
-  pub long : length buf ≡ length buf₀
+  pub at-most : i ≤ length os
+  pub same-length : length buf ≡ length buf₀
   pub laid : buf ≡ over buf₀ 8 (entriesAt f (take i os) ss)
 
 pub entries-first : (buf f os ss : List ℕ) → EntriesPut buf buf f os ss 0
 unfolding entriesOf
-entries-first buf f os ss = record { few = omega arith; long = refl; laid = sym (over-none buf 8) }
+entries-first buf f os ss = record { at-most = omega arith; same-length = refl; laid = sym (over-none buf 8) }
 
 inside-take : (f os : List ℕ) (i : ℕ) → i ≤ length os → Inside f os → Inside f (take i os)
 inside-take f os i h t j k =
@@ -89,10 +89,10 @@ pub entries-next : (buf₀ buf buf′ f os ss : List ℕ) (i : ℕ) → EntriesP
 entries-next buf₀ buf buf′ f os ss i st h t room p q =
     let n : length (entriesAt f (take i os) ss) ≡ entrySize * i =
     length-entriesAt f (take i os) ss (inside-take f os i (omega arith) t) ∙ ap (λ (m : ℕ). entrySize * m) (length-take-le i os (omega arith)) in
-    let long = st .long in
+    let same-length = st .same-length in
     record {
-      few = omega arith;
-      long = omega arith;
+      at-most = omega arith;
+      same-length = omega arith;
       laid =
           rw (add-one, entriesOf-more (entryAt f) os ss i 0 h)
           (p ∙ over-then buf₀ buf 8 (entriesAt f (take i os) ss) (entryAt f (getD os i 0) (getD ss i 0)) (entrySize * i) (st .laid) n (omega arith));
@@ -110,23 +110,23 @@ in-line : (a b c d e f g h : List ℕ) → ((((((a ++ b) ++ c) ++ d) ++ e) ++ f)
 in-line a b c d e f g h = simp append-assoc
 
 module _ (buf : List ℕ) (c offset id : ℕ) (room : 4096 ≤ length buf) where
-  pub fields-laid : (b₁ b₂ b₃ b₄ b₅ b₆ b₇ b₈ : List ℕ) (long end : ℕ) → long ≡ entriesEnd c → end ≡ offset + 64 + round64 (payloadLength c)
+  pub fields-laid : (b₁ b₂ b₃ b₄ b₅ b₆ b₇ b₈ : List ℕ) (ends end : ℕ) → ends ≡ entriesEnd c → end ≡ offset + 64 + round64 (payloadLength c)
       → b₁ ≡ over buf 0 name → b₂ ≡ over b₁ 4 (leBytes 2 1) → b₃ ≡ over b₂ 6 (leBytes 2 c) → b₄ ≡ over b₃ 8 (leBytes 8 offset)
-      → b₅ ≡ over b₄ 16 (leBytes 8 id) → b₆ ≡ over b₅ 24 (leBytes 8 long) → b₇ ≡ over b₆ 32 (leBytes 8 end) → b₈ ≡ over b₇ 40 (replicate (4092 - 40) 0)
+      → b₅ ≡ over b₄ 16 (leBytes 8 id) → b₆ ≡ over b₅ 24 (leBytes 8 ends) → b₇ ≡ over b₆ 32 (leBytes 8 end) → b₈ ≡ over b₇ 40 (replicate (4092 - 40) 0)
       → b₈ ≡ over buf 0 (rootBytes c offset id)
   unfolding rootBytes
-  fields-laid b₁ b₂ b₃ b₄ b₅ b₆ b₇ b₈ long end el ee p₁ p₂ p₃ p₄ p₅ p₆ p₇ p₈ =
+  fields-laid b₁ b₂ b₃ b₄ b₅ b₆ b₇ b₈ ends end el ee p₁ p₂ p₃ p₄ p₅ p₆ p₇ p₈ =
       let x₂ : List ℕ = name ++ leBytes 2 1 in
       let x₃ : List ℕ = x₂ ++ leBytes 2 c in
       let x₄ : List ℕ = x₃ ++ leBytes 8 offset in
       let x₅ : List ℕ = x₄ ++ leBytes 8 id in
-      let x₆ : List ℕ = x₅ ++ leBytes 8 long in
+      let x₆ : List ℕ = x₅ ++ leBytes 8 ends in
       let x₇ : List ℕ = x₆ ++ leBytes 8 end in
       let q₂ : b₂ ≡ over buf 0 x₂ = p₂ ∙ over-then buf b₁ 0 name (leBytes 2 1) 4 p₁ refl (omega arith) in
       let q₃ : b₃ ≡ over buf 0 x₃ = p₃ ∙ over-then buf b₂ 0 x₂ (leBytes 2 c) 6 q₂ (simp length-leBytes) (omega arith) in
       let q₄ : b₄ ≡ over buf 0 x₄ = p₄ ∙ over-then buf b₃ 0 x₃ (leBytes 8 offset) 8 q₃ (simp (length-append, length-leBytes)) (omega arith) in
       let q₅ : b₅ ≡ over buf 0 x₅ = p₅ ∙ over-then buf b₄ 0 x₄ (leBytes 8 id) 16 q₄ (simp (length-append, length-leBytes)) (omega arith) in
-      let q₆ : b₆ ≡ over buf 0 x₆ = p₆ ∙ over-then buf b₅ 0 x₅ (leBytes 8 long) 24 q₅ (simp (length-append, length-leBytes)) (omega arith) in
+      let q₆ : b₆ ≡ over buf 0 x₆ = p₆ ∙ over-then buf b₅ 0 x₅ (leBytes 8 ends) 24 q₅ (simp (length-append, length-leBytes)) (omega arith) in
       let q₇ : b₇ ≡ over buf 0 x₇ = p₇ ∙ over-then buf b₆ 0 x₆ (leBytes 8 end) 32 q₆ (simp (length-append, length-leBytes)) (omega arith) in
       let q₈ : b₈ ≡ over buf 0 (x₇ ++ replicate (4092 - 40) 0) =
       p₈ ∙ over-then buf b₇ 0 x₇ (replicate (4092 - 40) 0) 40 q₇ (simp (length-append, length-leBytes)) (omega arith) in

@@ -12,7 +12,7 @@ use Rattle.segment.specs.chain.Chain.{All}
 use Rattle.segment.specs.chain.Laws.{afters}
 use Rattle.segment.specs.chain.Walk.{walk-at}
 use Rattle.segment.specs.Header.{Link, start, reader, linkAt, whole, kindAt}
-use Rattle.segment.specs.Laws.{segment-format, linkFront, Lies, lies}
+use Rattle.segment.specs.Laws.{segment-format, linkFront, LinkRead, lies}
 use Rattle.segment.specs.Step.{wholeAt, whole-link}
 use Rattle.segment.specs.Chained.{offsetsOf, link-place}
 use Rattle.segment.specs.Search.{Placed}
@@ -25,7 +25,7 @@ use Rattle.confirm.specs.states.At.{stateOf, statesHeldAt, payloadIn, st
 lying-kind : (f : List ℕ) (l : Link) → Lying f l → kindAt f (l .offset) ≡ l .kind
 unfolding linkFront
 lying-kind f l h =
-    let y : Lies (h .state) (drop (l .offset) f) l = lies (h .state) (drop (l .offset) f) l (h .reads) in
+    let y : LinkRead (h .state) (drop (l .offset) f) l = lies (h .state) (drop (l .offset) f) l (h .reads) in
     sym (ap (λ (l : Link). l .kind) (y .link-is) ∙ getD-drop (l .offset) f 0x05 0)
 
 pub states-lying : (f : List ℕ) (ls : List Link) (ss : List ℕ) → All (Lying f) ls → statesHeldAt f (offsetsOf ls) ss ≡ statesHeld ls ss
@@ -49,7 +49,7 @@ module _ (f : List ℕ) (at : ℕ) (b : List Link) (l : Link) (z : List Link) (p
   payload-is : payloadIn f at (length (l .payload)) ≡ l .payload
   unfolding linkFront
   payload-is =
-      let y : Lies (afters reader start b) (drop at f) l = lies (afters reader start b) (drop at f) l reads in
+      let y : LinkRead (afters reader start b) (drop at f) l = lies (afters reader start b) (drop at f) l reads in
       sym (ap (λ (l : Link). l .payload) (y .link-is) ∙ ap (λ (n : ℕ). take n (drop 64 (drop at f))) (sym (y .length-is)) ∙ ap (take (length (l .payload))) (drop-drop 64 at f))
 
   pub confirmed-at : (os : List ℕ) → Bytes f → offsetsOf b ≡ os → confirmedAt f os at (length (l .payload)) (l .kind) (l .id) ≡ confirmed b l

@@ -26,13 +26,13 @@ use Rattle.segment.specs.Header.{kindAt}
 
 -- i states are read
 pub record StatesRead (s₀ s payload : List ℕ) (n i : ℕ) : Type 0 where
-  pub few : i ≤ n
-  pub long : length s ≡ length s₀
+  pub at-most : i ≤ n
+  pub same-length : length s ≡ length s₀
   pub laid : s ≡ over s₀ 0 (statesIn i (drop 8 payload))
 
 pub read-first : (s payload : List ℕ) (n : ℕ) → StatesRead s s payload n 0
 unfolding statesBy
-read-first s payload n = record { few = omega arith; long = refl; laid = sym (over-none s 0) }
+read-first s payload n = record { at-most = omega arith; same-length = refl; laid = sym (over-none s 0) }
 
 pub read-next : (s₀ s payload : List ℕ) (n i : ℕ) → StatesRead s₀ s payload n i → i < n → n ≤ length s₀
     → StatesRead s₀ (set s i (getD payload (entriesEnd i + 41) 0)) payload n (i + 1)
@@ -40,8 +40,8 @@ read-next s₀ s payload n i st h k =
     let g : getD payload (entriesEnd i + 41) 0 ≡ getD (drop 8 payload) (entrySize * i + 41) 0 =
     ap (λ (j : ℕ). getD payload j 0) (omega arith) ∙ sym (getD-drop 8 payload (entrySize * i + 41) 0) in
     record {
-      few = omega arith;
-      long = length-set s i (getD payload (entriesEnd i + 41) 0) ∙ st .long;
+      at-most = omega arith;
+      same-length = length-set s i (getD payload (entriesEnd i + 41) 0) ∙ st .same-length;
       laid =
           ap (set s i) g
           ∙ rw (add-one, statesBy-more entrySize i (drop 8 payload))
@@ -50,7 +50,7 @@ read-next s₀ s payload n i st h k =
 
 pub read-last : (s₀ s payload : List ℕ) (n i : ℕ) → StatesRead s₀ s payload n i → n ≤ i → s ≡ over s₀ 0 (statesIn n (drop 8 payload))
 read-last s₀ s payload n i st h =
-    let few = st .few in
+    let at-most = st .at-most in
     let e : i ≡ n = omega arith in
     rw e at (st .laid)
 
@@ -58,12 +58,12 @@ read-last s₀ s payload n i st h =
 
 -- the first i states are
 pub record HeldAt (f os ss : List ℕ) (i : ℕ) : Type 0 where
-  pub few : i ≤ length os
+  pub at-most : i ≤ length os
   pub rest : statesHeldAt f os ss ≡ statesHeldAt f (drop i os) (drop i ss)
 
 module _ (f os ss : List ℕ) (same : length ss ≡ length os) where
   pub held-first : HeldAt f os ss 0
-  held-first = record { few = omega arith; rest = refl }
+  held-first = record { at-most = omega arith; rest = refl }
 
   module _ (i : ℕ) (st : HeldAt f os ss i) where
     turn : i < length os
@@ -75,7 +75,7 @@ module _ (f os ss : List ℕ) (same : length ss ≡ length os) where
     held-stop h e = sym (turn h ∙ rw e)
 
     pub held-next : i < length os → stateOf (kindAt f (getD os i 0)) (getD ss i 0) ≡ true → HeldAt f os ss (i + 1)
-    held-next h e = record { few = omega arith; rest = rw add-one (turn h ∙ rw e) }
+    held-next h e = record { at-most = omega arith; rest = rw add-one (turn h ∙ rw e) }
 
     pub held-last : length os ≤ i → true ≡ statesHeldAt f os ss
     unfolding statesHeldAt

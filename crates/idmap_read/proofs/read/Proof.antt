@@ -1,7 +1,7 @@
--- `idmap_read::read` meets its contract: a count out of bounds, and a map read through a list of our own.
+-- `idmap_read::read` meets its contract: a count out of bounds, and a map read through a list of our scratch.
 -- Assumes nothing.
 use native.Mathlib.Omega.{arith}
-use Rattle.idmap_read.specs.Ways.{read-none, read-over}
+use Rattle.idmap_read.specs.ReadLaws.{read-none, read-over}
 use borrow.Author.Needs.{needs}
 use Rattle.idmap_read.proofs.read.Statement.{statement}
 use Rattle.idmap_read.proofs.read.Tie as tie

@@ -2,7 +2,7 @@
 -- Assumes nothing.
 use mathlib.Core.Path.{_≡_, sym, _∙_}
 use native.Mathlib.Omega.{arith}
-use Rattle.idmap_read.specs.Ways.{read-broken, read-short, read-done}
+use Rattle.idmap_read.specs.ReadLaws.{read-broken, read-short, read-done}
 use borrow.Author.Needs.{needs}
 use Rattle.idmap_read.proofs.read_through.Statement.{statement}
 use Rattle.idmap_read.proofs.read_through.Tie as tie

@@ -4,7 +4,7 @@ use Prim.Native.Nat.{_≤_, _<_, _+_, _-_, _*_}
 use mathlib.Core.Path.{_≡_, sym, _∙_}
 use native.Mathlib.Omega.{arith}
 use Rattle.idmap.specs.Decode.{groups}
-use Rattle.idmap_write.specs.Ways.{Raw, raw-facts, Delta, delta-facts}
+use Rattle.idmap_write.specs.WriteLaws.{Raw, raw-facts, Delta, delta-facts}
 use borrow.Author.Needs.{needs}
 use Rattle.idmap_write.proofs.encoded_len.Statement.{statement}
 use Rattle.idmap_write.proofs.encoded_len.Tie as tie
@@ -29,24 +29,24 @@ div-start c = let f = deltas c in omega (arith, f .pos)
 
 mul-start : tie.Need-mul-start
 unfolding groups
-mul-start c = let f = deltas c in omega (arith, f .few, f .most, f .small)
+mul-start c = let f = deltas c in omega (arith, f .at-most, f .most, f .small)
 
 add-start-2 : tie.Need-add-start-2
 unfolding groups
-add-start-2 c = let f = deltas c in omega (arith, f .few, f .most, f .small)
+add-start-2 c = let f = deltas c in omega (arith, f .at-most, f .most, f .small)
 
 deltas-len-requires : tie.Need-deltas-len-requires
 deltas-len-requires c κs = let f = deltas c in (f .most, (f .pos, f .up))
 
 add-result-2 : tie.Need-add-result-2
 unfolding groups
-add-result-2 c = let f = deltas (c .before) in omega (arith, f .few, f .most, f .small, c .deltas-len .ensures .1)
+add-result-2 c = let f = deltas (c .before) in omega (arith, f .at-most, f .most, f .small, c .deltas-len .ensures .1)
 
 returns-2 : tie.Need-returns-2
 unfolding groups
 returns-2 c =
     let f = deltas (c .before) in
-    (omega (arith, f .size, c .deltas-len .ensures .0), omega (arith, f .few, f .most, f .small, c .deltas-len .ensures .1))
+    (omega (arith, f .size, c .deltas-len .ensures .0), omega (arith, f .at-most, f .most, f .small, c .deltas-len .ensures .1))
 
 pub encoded-len-spec : {M : Type 1} → statement M
 encoded-len-spec =

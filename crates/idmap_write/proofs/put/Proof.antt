@@ -6,7 +6,7 @@ use native.Mathlib.Omega.{arith}
 use lib.ListN.{length}
 use Rattle.idmap.specs.Decode.{groups}
 use Rattle.idmap.specs.EncodeLaws.{length-head}
-use Rattle.idmap_write.specs.Ways.{Raw, raw-facts, Delta, delta-facts, whole-laid}
+use Rattle.idmap_write.specs.WriteLaws.{Raw, raw-facts, Delta, delta-facts, whole-laid}
 use borrow.Author.Needs.{needs}
 use Rattle.idmap_write.proofs.put.Statement.{statement}
 use Rattle.idmap_write.proofs.put.Tie as tie
@@ -44,11 +44,11 @@ div-start c = let f = deltas c in omega (arith, f .pos)
 
 mul-start : tie.Need-mul-start
 unfolding groups
-mul-start c = let f = deltas c in omega (arith, f .few, f .most, f .small)
+mul-start c = let f = deltas c in omega (arith, f .at-most, f .most, f .small)
 
 add-start-2 : tie.Need-add-start-2
 unfolding groups
-add-start-2 c = let f = deltas c in omega (arith, f .few, f .most, f .small)
+add-start-2 c = let f = deltas c in omega (arith, f .at-most, f .most, f .small)
 
 put-head-requires-2 : tie.Need-put-head-requires-2
 put-head-requires-2 c κs = let f = deltas (c .before) in omega (arith, f .size, c .before .before .before .before .before .pre .1)

@@ -17,22 +17,22 @@ use Rattle.idmap.specs.EncodeLaws.{IdsAt, ids-next, length-rawIds, raw-more, de
 -- ---- raw
 
 pub record RawPut (buf₀ buf ids : List ℕ) (i : ℕ) : Type 0 where
-  pub few : i ≤ length ids
-  pub long : length buf ≡ length buf₀
+  pub at-most : i ≤ length ids
+  pub same-length : length buf ≡ length buf₀
   pub laid : buf ≡ over buf₀ 7 (rawIds (take i ids))
 
 pub raw-first : (buf ids : List ℕ) → RawPut buf buf ids 0
 unfolding rawIds
-raw-first buf ids = record { few = omega arith; long = refl; laid = sym (over-none buf 7) }
+raw-first buf ids = record { at-most = omega arith; same-length = refl; laid = sym (over-none buf 7) }
 
 pub raw-next : (buf₀ buf buf′ ids : List ℕ) (i : ℕ) → RawPut buf₀ buf ids i → i < length ids → 7 + 8 * length ids ≤ length buf₀
     → buf′ ≡ over buf (7 + 8 * i) (leBytes 8 (getD ids i 0)) → length buf′ ≡ length buf → RawPut buf₀ buf′ ids (i + 1)
 raw-next buf₀ buf buf′ ids i st h room p q =
     let n : length (rawIds (take i ids)) ≡ 8 * i = length-rawIds (take i ids) ∙ ap (λ (m : ℕ). 8 * m) (length-take-le i ids (omega arith)) in
-    let long = st .long in
+    let same-length = st .same-length in
     record {
-      few = omega arith;
-      long = omega arith;
+      at-most = omega arith;
+      same-length = omega arith;
       laid = rw (raw-more ids i h) (p ∙ over-then buf₀ buf 7 (rawIds (take i ids)) (leBytes 8 (getD ids i 0)) (8 * i) (st .laid) n (omega arith));
     }
 
@@ -51,7 +51,7 @@ len-first ids r w = record { at = w; small = omega arith; same = omega arith }
 
 pub len-next : (ids : List ℕ) (r i left prev total n : ℕ) → LenAt ids r i left prev total → i < length ids
     → n ≡ length (varintOf (deltaOf left prev (getD ids i 0))) → n ≤ 10 → LenAt ids r (i + 1) (leftAfter r left) (getD ids i 0) (total + n)
-len-next ids r i left prev total n st h e few =
+len-next ids r i left prev total n st h e at-most =
     let small = st .small in
     let c = ap length (deltas-cons r left prev i ids h) ∙ length-append (varintOf (deltaOf left prev (getD ids i 0))) _ in
     let same = st .same in
@@ -59,7 +59,7 @@ len-next ids r i left prev total n st h e few =
 
 pub len-last : (ids : List ℕ) (r i left prev total : ℕ) → LenAt ids r i left prev total → length ids ≤ i → (total ≡ length (deltas r 0 0 ids)) × (total ≤ 10 * length ids)
 len-last ids r i left prev total st h =
-    let few = st .at .few in
+    let at-most = st .at .at-most in
     let small = st .small in
     let same = st .same in
     let e = ap length (deltas-none r left prev i ids h) in
@@ -69,7 +69,7 @@ len-last ids r i left prev total st h =
 
 pub record PutAt (buf₀ buf ids : List ℕ) (r start i left prev place pos : ℕ) : Type 0 where
   pub at : IdsAt ids i left prev
-  pub long : length buf ≡ length buf₀
+  pub same-length : length buf ≡ length buf₀
   pub offs : List ℕ
   pub vars : List ℕ
   pub offs-all : offs ++ restarts r left prev (pos - start) (drop i ids) ≡ restarts r 0 0 0 ids
@@ -83,7 +83,7 @@ put-first buf ids r start w =
     let e : start - start ≡ 0 = omega arith in
     record {
       at = w;
-      long = refl;
+      same-length = refl;
       offs = [];
       vars = [];
       offs-all = rw e;
@@ -121,12 +121,12 @@ module _ (buf₀ buf ids : List ℕ) (r start i left prev place pos : ℕ) (st :
   -- the room, of the buffer as it is
   pub put-offs : place + length (restartOf left (pos - start)) ≤ length buf
   put-offs =
-      let long = st .long in
+      let same-length = st .same-length in
       omega (arith, offs-room, vars-room, st .pos-is)
 
   pub put-vars : pos + length (varintOf (deltaOf left prev (getD ids i 0))) ≤ length buf
   put-vars =
-      let long = st .long in
+      let same-length = st .same-length in
       omega (arith, vars-room)
 
   pub put-behind : start ≤ pos
@@ -143,7 +143,7 @@ module _ (buf₀ buf ids : List ℕ) (r start i left prev place pos : ℕ) (st :
       let v = vars-room in
       let pl = st .place-is in
       let po = st .pos-is in
-      let long = st .long in
+      let same-length = st .same-length in
       let n : length (over buf₀ 7 (st .offs)) ≡ length buf₀ = length-over buf₀ 7 (st .offs) (omega arith) in
       let sw : over (over (over buf₀ 7 (st .offs)) start (st .vars)) place rs ≡ over (over (over buf₀ 7 (st .offs)) place rs) start (st .vars) =
       over-swap (over buf₀ 7 (st .offs)) place rs start (st .vars) o (omega arith) in
@@ -159,7 +159,7 @@ module _ (buf₀ buf ids : List ℕ) (r start i left prev place pos : ℕ) (st :
       ∙ ap (λ (l : List ℕ). st .offs ++ l) (sym (restarts-cons r left prev (pos - start) i ids h)) ∙ st .offs-all in
       record {
         at = ids-next ids i left prev (st .at) h (leftAfter r left);
-        long = omega arith;
+        same-length = omega arith;
         offs = st .offs ++ rs;
         vars = st .vars ++ vs;
         offs-all = rw f at ro;

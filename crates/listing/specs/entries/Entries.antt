@@ -29,7 +29,7 @@ entryLines (some r) = linesOf (r .before) (states r)
 
 -- the first i entries are written, from `at` on to `end`; a line takes at most 97 bytes
 pub record EntriesAt (f t₀ t : List ℕ) (at count i end : ℕ) : Type 0 where
-  pub few : i ≤ count
+  pub at-most : i ≤ count
   pub short : end ≤ at + 97 * i
   pub writes : Written t₀ t at (firstLines i (opened f)) end
 
@@ -41,7 +41,7 @@ none-yet (some r) = refl
 pub entries-first : (f t : List ℕ) (at count : ℕ) → at ≤ length t → EntriesAt f t t at count 0 at
 entries-first f t at count h =
     record {
-      few = omega arith;
+      at-most = omega arith;
       short = omega arith;
       writes = subst (λ (xs : List ℕ). Written t t at xs at) (sym (none-yet (opened f))) (nothing t at h);
     }
@@ -76,7 +76,7 @@ module _ (f : List ℕ) (offset count : ℕ) (m : ManifestAt f offset count) whe
     entries-next t₀ t t′ at end end′ s w k =
         let q = s .short in
         record {
-          few = omega arith;
+          at-most = omega arith;
           short = omega arith;
           writes = subst (λ (xs : List ℕ). Written t₀ t′ at xs end′) (sym more) (then (s .writes) w);
         }
@@ -88,6 +88,6 @@ module _ (f : List ℕ) (offset count : ℕ) (m : ManifestAt f offset count) whe
   pub entries-last : (t₀ t : List ℕ) (at i end : ℕ) → EntriesAt f t₀ t at count i end → count ≤ i
       → Written t₀ t at (entryLines (opened f)) end × (end ≤ at + 97 * count)
   entries-last t₀ t at i end s h =
-      let e : i ≡ count = omega (arith, s .few) in
+      let e : i ≡ count = omega (arith, s .at-most) in
       let q = s .short in
       (subst (λ (xs : List ℕ). Written t₀ t at xs end) (ap (λ (k : ℕ). firstLines k (opened f)) e ∙ all-lines) (s .writes), omega arith)

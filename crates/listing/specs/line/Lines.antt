@@ -26,12 +26,12 @@ unfolding lineAt lineOf
 line-at f p i l word n = rw (n .whole-is, n .id-is, n .kind-is, n .offset-is, n .length-is)
 
 -- its pieces, written one behind the other: two columns, two more, the word, the check
-module _ (f : List ℕ) (p : ℕ) (word : List ℕ) (id kind long : ℕ) (ok : Bool) (id-is : id ≡ idAt f p) (kind-is : kind ≡ kindAt f p) (long-is : long ≡ lengthAt f p) (ok-is : ok ≡ wholeAt f p long) where
-  pieces : (column id ++ column kind) ++ ((column p ++ column long) ++ (word ++ checkWord ok)) ≡ lineAt f p word
+module _ (f : List ℕ) (p : ℕ) (word : List ℕ) (id kind len : ℕ) (ok : Bool) (id-is : id ≡ idAt f p) (kind-is : kind ≡ kindAt f p) (long-is : len ≡ lengthAt f p) (ok-is : ok ≡ wholeAt f p len) where
+  pieces : (column id ++ column kind) ++ ((column p ++ column len) ++ (word ++ checkWord ok)) ≡ lineAt f p word
   unfolding lineAt line
   pieces = rw (← long-is, ← ok-is, ← id-is, ← kind-is) (simp append-assoc)
 
-  pub line-written : {t₀ t₁ t₂ t₃ t₄ : List ℕ} {at a b d e : ℕ} → Written t₀ t₁ at (column id ++ column kind) a → Written t₁ t₂ a (column p ++ column long) b
+  pub line-written : {t₀ t₁ t₂ t₃ t₄ : List ℕ} {at a b d e : ℕ} → Written t₀ t₁ at (column id ++ column kind) a → Written t₁ t₂ a (column p ++ column len) b
       → Written t₂ t₃ b word d → Written t₃ t₄ d (checkWord ok) e → Written t₀ t₄ at (lineAt f p word) e
   line-written {t₀} {t₁} {t₂} {t₃} {t₄} {at} {a} {b} {d} {e} w x y z = subst (λ (xs : List ℕ). Written t₀ t₄ at xs e) pieces (then w (then x (then y z)))
 

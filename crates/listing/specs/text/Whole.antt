@@ -35,13 +35,13 @@ end-pieces : (end t : ℕ) → (ascii "end " ++ (decimal end ++ ascii " tried ")
 unfolding endLine
 end-pieces end t = simp append-assoc
 
-module _ (f offsets : List ℕ) (offset end count t : ℕ) (b : Bytes f) (s : Indexed f offsets) (long : most ≤ length offsets) (o : OpensAt f offset end count t) where
+module _ (f offsets : List ℕ) (offset end count t : ℕ) (b : Bytes f) (s : Indexed f offsets) (has-room : most ≤ length offsets) (o : OpensAt f offset end count t) where
   abbrev pub m : ManifestAt f offset count
   m = opened-at f offset end (o .0) count t (o .1)
 
   -- the manifest's segment lies in the file, and its entries are few
   pub list-room : (offset + (64 + lengthAt f offset) ≤ length f) × (count ≤ maxEntries)
-  list-room = (manifest-part f offsets offset count b s long m .0, manifest-room f offsets offset count b s long m .1)
+  list-room = (manifest-part f offsets offset count b s has-room m .0, manifest-room f offsets offset count b s has-room m .1)
 
   tried-is : tried f (some (m .found)) ≡ t
   unfolding openedCase foundCase
@@ -56,7 +56,7 @@ module _ (f offsets : List ℕ) (offset end count t : ℕ) (b : Bytes f) (s : In
   list-is =
       rw (
         m .opens,
-        line-at f offset (length (m .found .before)) (m .found .link) (ascii "manifest") (manifest-numbered f offsets offset count b s long m),
+        line-at f offset (length (m .found .before)) (m .found .link) (ascii "manifest") (manifest-numbered f offsets offset count b s has-room m),
         opened-end f offset end (o .0) count t (o .1) .0,
         tried-is,
       )

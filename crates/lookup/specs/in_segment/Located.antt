@@ -25,7 +25,7 @@ use Rattle.vec_read.specs.find.Found.{foundOf}
 use Rattle.vec_read.specs.declared.find.Found.the-variants.{At, Missing as NotFound}
 use Rattle.reading.specs.Live.{liveOf, vectorsOf, searchOrder}
 use Rattle.reading.specs.LiveLaws.{orderOf, order-all, order-retired, order-other, order-here}
-use Rattle.reading.specs.Answers.{Hit, Held, Missing, Bad, hitOf, lookIn, orElse, searchIn, hitFound, hitIn}
+use Rattle.reading.specs.Answers.{Hit, Held, Missing, Bad, hitOf, hitInSegment, orElse, searchIn, hitFound, hitIn}
 use Rattle.lookup.specs.declared.in_segment.Located.{Located}
 use Rattle.lookup.specs.declared.in_segment.Located.the-variants.{In, Nowhere, Refused}
 use Rattle.manifest.specs.Payload.{statePlace}
@@ -43,16 +43,16 @@ placedIn body len none = Nowhere
 placedIn body len (some p) = In body len (p .line .offset) (p .line .count) (p .line .dim) (p .line .dtype) (p .index)
 
 -- the segment whose header begins at p, with a payload of so many bytes
-unfoldable pub lookAt : List ℕ → ℕ → ℕ → ℕ → Located
-lookAt f p len id =
+unfoldable pub segmentHitAt : List ℕ → ℕ → ℕ → ℕ → Located
+segmentHitAt f p len id =
     let s = take len (drop (p + 64) f) in
     cond (wholeAt f p len) (cond (eqb (checkOf s) 0) (placedIn (p + 64) len (findIn s id)) (Refused (checkOf s))) (Refused 4)
 
 -- the ways out, where n is the length that the code has read
 module _ (f : List ℕ) (p len id n : ℕ) (n-is : n ≡ len) where
-  pub look-torn : wholeAt f p n ≡ false → Refused 4 ≡ lookAt f p len id
-  unfolding lookAt
-  look-torn h = rw (← n-is, h)
+  pub segment-torn : wholeAt f p n ≡ false → Refused 4 ≡ segmentHitAt f p len id
+  unfolding segmentHitAt
+  segment-torn h = rw (← n-is, h)
 
   module _ (h : wholeAt f p n ≡ true) where
     -- the payload, as the code takes it out of the file
@@ -62,31 +62,31 @@ module _ (f : List ℕ) (p len id n : ℕ) (n-is : n ≡ len) where
     same : s ≡ take n (drop (p + 64) f)
     same = let e : p + 64 + n - (p + 64) ≡ n = omega arith in ap (λ (m : ℕ). take m (drop (p + 64) f)) e
 
-    pub look-bad : (b : ℕ) → b ≡ checkOf s → (b ≡ 0 → ⊥) → Refused b ≡ lookAt f p len id
-    unfolding lookAt
-    look-bad b e nz =
+    pub segment-bad : (b : ℕ) → b ≡ checkOf s → (b ≡ 0 → ⊥) → Refused b ≡ segmentHitAt f p len id
+    unfolding segmentHitAt
+    segment-bad b e nz =
         let q : checkOf (take n (drop (p + 64) f)) ≡ b = ap checkOf (sym same) ∙ sym e in
         rw (← n-is, h, q, ne-eqb b 0 nz)
 
     module _ (ok : checkOf s ≡ 0) where
-      to-place : lookAt f p len id ≡ placedIn (p + 64) n (findIn s id)
-      unfolding lookAt
+      to-place : segmentHitAt f p len id ≡ placedIn (p + 64) n (findIn s id)
+      unfolding segmentHitAt
       to-place =
           let q : checkOf (take n (drop (p + 64) f)) ≡ 0 = ap checkOf (sym same) ∙ ok in
           rw (← n-is, h, q) (ap (λ (x : List ℕ). placedIn (p + 64) n (findIn x id)) (sym same))
 
-      pub look-missing : foundOf (findIn s id) ≡ NotFound → Nowhere ≡ lookAt f p len id
+      pub segment-missing : foundOf (findIn s id) ≡ NotFound → Nowhere ≡ segmentHitAt f p len id
       unfolding foundOf placedIn
-      look-missing e = sym (to-place ∙ go (findIn s id) e)
+      segment-missing e = sym (to-place ∙ go (findIn s id) e)
         where
           go : (o : Option Place) → foundOf o ≡ NotFound → placedIn (p + 64) n o ≡ Nowhere
           go none q = refl
           go (some w) q = absurd (let z : _≡_ {A = ℕ} 0 1 = cc in omega arith)
 
-      pub look-found : (offset count dim dtype index : ℕ) → foundOf (findIn s id) ≡ At offset count dim dtype index
-          → In (p + 64) n offset count dim dtype index ≡ lookAt f p len id
+      pub segment-found : (offset count dim dtype index : ℕ) → foundOf (findIn s id) ≡ At offset count dim dtype index
+          → In (p + 64) n offset count dim dtype index ≡ segmentHitAt f p len id
       unfolding foundOf placedIn
-      look-found offset count dim dtype index e = sym (to-place ∙ go (findIn s id) e)
+      segment-found offset count dim dtype index e = sym (to-place ∙ go (findIn s id) e)
         where
           go : (o : Option Place) → foundOf o ≡ At offset count dim dtype index → placedIn (p + 64) n o ≡ In (p + 64) n offset count dim dtype index
           go none q = absurd (let z : _≡_ {A = ℕ} 0 1 = cc in omega arith)
@@ -101,10 +101,10 @@ same-hit l true false c o = refl
 same-hit l true true c none = refl
 same-hit l true true c (some p) = refl
 
-look-link : (f : List ℕ) (p i id : ℕ) (l : Link) → Numbered f p i l → lookAt f p (lengthAt f p) id ≡ locatedOf (lookIn id l)
-unfolding lookAt lookIn
-look-link f p i id l m =
-    ap (λ (n : ℕ). lookAt f p n id) (sym (m .length-is))
+segment-link : (f : List ℕ) (p i id : ℕ) (l : Link) → Numbered f p i l → segmentHitAt f p (lengthAt f p) id ≡ locatedOf (hitInSegment id l)
+unfolding segmentHitAt hitInSegment
+segment-link f p i id l m =
+    ap (λ (n : ℕ). segmentHitAt f p n id) (sym (m .length-is))
     ∙ ap (λ (x : List ℕ). cond (wholeAt f p (length (l .payload))) (cond (eqb (checkOf x) 0) (placedIn (p + 64) (length (l .payload)) (findIn x id)) (Refused (checkOf x))) (Refused 4)) (sym (m .payload-is))
     ∙ ap (λ (w : Bool). cond w (cond (eqb (checkOf (l .payload)) 0) (placedIn (p + 64) (length (l .payload)) (findIn (l .payload) id)) (Refused (checkOf (l .payload)))) (Refused 4)) (sym (m .whole-is))
     ∙ ap (λ (q : ℕ). cond (whole l) (cond (eqb (checkOf (l .payload)) 0) (placedIn (q + 64) (length (l .payload)) (findIn (l .payload) id)) (Refused (checkOf (l .payload)))) (Refused 4)) (sym (m .offset-is))
@@ -113,7 +113,7 @@ look-link f p i id l m =
 -- ---- where the search stands: entries from i on are passed
 
 pub record SearchAt (f : List ℕ) (id count i : ℕ) : Type 0 where
-  pub few : i ≤ count
+  pub at-most : i ≤ count
   pub same : (r : Found Link) → opened f ≡ some r → searchIn id (orderOf (take i (r .before)) (states r)) ≡ searchIn id (searchOrder r)
 
 module _ (f : List ℕ) (id offset count : ℕ) (m : ManifestAt f offset count) where
@@ -131,7 +131,7 @@ module _ (f : List ℕ) (id offset count : ℕ) (m : ManifestAt f offset count) 
   pub search-first : SearchAt f id count count
   search-first =
       record {
-        few = omega arith;
+        at-most = omega arith;
         same = λ r′ e.
             let c : count ≡ length (r′ .before) = sym (m .count-is) ∙ ap (λ (x : Found Link). length (x .before)) (same-found r′ e) in
             ap (λ (n : ℕ). searchIn id (orderOf (take n (r′ .before)) (states r′))) c ∙ ap (searchIn id) (order-all r′);
@@ -145,12 +145,12 @@ module _ (f : List ℕ) (id offset count : ℕ) (m : ManifestAt f offset count) 
 
   module _ (i j : ℕ) (offsets : List ℕ) (st : SearchAt f id count i) (next : i ≡ suc j) (a : EntryAt f offsets r offset j) where
     inside : j < length (r .before)
-    inside = let few = st .few in omega (arith, m .count-is)
+    inside = let at-most = st .at-most in omega (arith, m .count-is)
 
     on : orderOf (take (suc j) (r .before)) (states r) ≡ orderOf (take j (r .before)) (states r) → SearchAt f id count j
     on e =
         record {
-          few = let few = st .few in omega arith;
+          at-most = let at-most = st .at-most in omega arith;
           same = λ r′ q.
               subst (λ (x : Found Link). searchIn id (orderOf (take j (x .before)) (states x)) ≡ searchIn id (searchOrder x)) (same-found r′ q)
               (ap (searchIn id) (sym e) ∙ ap (λ (n : ℕ). searchIn id (orderOf (take n (r .before)) (states r))) (sym next) ∙ st .same r (m .opens));
@@ -164,38 +164,38 @@ module _ (f : List ℕ) (id offset count : ℕ) (m : ManifestAt f offset count) 
         on (order-other (r .before) (states r) j inside (λ z. n (sym (a .numbered .kind-is) ∙ ap (λ (l : Link). l .kind) (sym (a .link-is)) ∙ z)))
 
     module _ (live : getD f (statePlace offset j) 0 ≡ 0) (vec : kindAt f (getD offsets j 0) ≡ vecKind) where
-      here : searchIn id (orderOf (take (suc j) (r .before)) (states r)) ≡ orElse (lookIn id (linkNo f j)) (searchIn id (orderOf (take j (r .before)) (states r)))
+      here : searchIn id (orderOf (take (suc j) (r .before)) (states r)) ≡ orElse (hitInSegment id (linkNo f j)) (searchIn id (orderOf (take j (r .before)) (states r)))
       unfolding searchIn
       here =
           ap (searchIn id) (order-here (r .before) (states r) j inside (a .state-is ∙ live) (ap (λ (l : Link). l .kind) (a .link-is) ∙ a .numbered .kind-is ∙ vec))
-          ∙ ap (λ (l : Link). orElse (lookIn id l) (searchIn id (orderOf (take j (r .before)) (states r)))) (a .link-is)
+          ∙ ap (λ (l : Link). orElse (hitInSegment id l) (searchIn id (orderOf (take j (r .before)) (states r)))) (a .link-is)
 
-      whole-search : orElse (lookIn id (linkNo f j)) (searchIn id (orderOf (take j (r .before)) (states r))) ≡ searchIn id (searchOrder r)
+      whole-search : orElse (hitInSegment id (linkNo f j)) (searchIn id (orderOf (take j (r .before)) (states r))) ≡ searchIn id (searchOrder r)
       whole-search = sym here ∙ ap (λ (n : ℕ). searchIn id (orderOf (take n (r .before)) (states r))) (sym next) ∙ st .same r (m .opens)
 
-      looked : lookAt f (getD offsets j 0) (lengthAt f (getD offsets j 0)) id ≡ locatedOf (lookIn id (linkNo f j))
-      looked = look-link f (getD offsets j 0) j id (linkNo f j) (a .numbered)
+      looked : segmentHitAt f (getD offsets j 0) (lengthAt f (getD offsets j 0)) id ≡ locatedOf (hitInSegment id (linkNo f j))
+      looked = segment-link f (getD offsets j 0) j id (linkNo f j) (a .numbered)
 
-      pub search-on : lookAt f (getD offsets j 0) (lengthAt f (getD offsets j 0)) id ≡ Nowhere → SearchAt f id count j
+      pub search-on : segmentHitAt f (getD offsets j 0) (lengthAt f (getD offsets j 0)) id ≡ Nowhere → SearchAt f id count j
       unfolding orElse locatedOf
-      search-on e = go (lookIn id (linkNo f j)) refl (sym looked ∙ e)
+      search-on e = go (hitInSegment id (linkNo f j)) refl (sym looked ∙ e)
         where
-          go : (h : Hit) → lookIn id (linkNo f j) ≡ h → locatedOf h ≡ Nowhere → SearchAt f id count j
+          go : (h : Hit) → hitInSegment id (linkNo f j) ≡ h → locatedOf h ≡ Nowhere → SearchAt f id count j
           go (Held l p) q z = absurd (let w : _≡_ {A = ℕ} 0 1 = cc in omega arith)
           go (Bad n) q z = absurd (let w : _≡_ {A = ℕ} 0 1 = cc in omega arith)
           go Missing q z =
               record {
-                few = let few = st .few in omega arith;
+                at-most = let at-most = st .at-most in omega arith;
                 same = λ r′ e.
                     subst (λ (x : Found Link). searchIn id (orderOf (take j (x .before)) (states x)) ≡ searchIn id (searchOrder x)) (same-found r′ e)
                     (sym (ap (λ (h : Hit). orElse h (searchIn id (orderOf (take j (r .before)) (states r)))) q) ∙ whole-search);
               }
 
-      pub search-stop : (o : Located) → lookAt f (getD offsets j 0) (lengthAt f (getD offsets j 0)) id ≡ o → (o ≡ Nowhere → ⊥) → o ≡ locatedOf (hitIn f id)
+      pub search-stop : (o : Located) → segmentHitAt f (getD offsets j 0) (lengthAt f (getD offsets j 0)) id ≡ o → (o ≡ Nowhere → ⊥) → o ≡ locatedOf (hitIn f id)
       unfolding orElse locatedOf
-      search-stop o e n = sym e ∙ looked ∙ ap locatedOf (go (lookIn id (linkNo f j)) refl ∙ whole-search ∙ sym hit-is)
+      search-stop o e n = sym e ∙ looked ∙ ap locatedOf (go (hitInSegment id (linkNo f j)) refl ∙ whole-search ∙ sym hit-is)
         where
-          go : (h : Hit) → lookIn id (linkNo f j) ≡ h → h ≡ orElse h (searchIn id (orderOf (take j (r .before)) (states r)))
+          go : (h : Hit) → hitInSegment id (linkNo f j) ≡ h → h ≡ orElse h (searchIn id (orderOf (take j (r .before)) (states r)))
           go (Held l p) q = refl
           go (Bad k) q = refl
           go Missing q = absurd (n (sym e ∙ looked ∙ ap locatedOf q))

@@ -26,12 +26,12 @@ use Rattle.manifest.specs.Payload.{statePlace}
 
 -- the first i entries are passed
 pub record FindAt (f : List ℕ) (id count i : ℕ) : Type 0 where
-  pub few : i ≤ count
+  pub at-most : i ≤ count
   pub same : (r : Found Link) → opened f ≡ some r → withId id (liveOf (drop i (r .before)) (drop i (states r))) ≡ withId id (live r)
 
 pub find-first : (f : List ℕ) (id count : ℕ) → FindAt f id count 0
 unfolding live
-find-first f id count = record { few = omega arith; same = λ r e. refl }
+find-first f id count = record { at-most = omega arith; same = λ r e. refl }
 
 module _ (f : List ℕ) (id offset count : ℕ) (m : ManifestAt f offset count) where
   abbrev r : Found Link
@@ -54,7 +54,7 @@ module _ (f : List ℕ) (id offset count : ℕ) (m : ManifestAt f offset count) 
     on : withId id (liveOf (drop i (r .before)) (drop i (states r))) ≡ withId id (liveOf (drop (suc i) (r .before)) (drop (suc i) (states r))) → FindAt f id count (i + 1)
     on e =
         record {
-          few = omega arith;
+          at-most = omega arith;
           same = λ r′ q.
               subst (λ (x : Found Link). withId id (liveOf (drop (i + 1) (x .before)) (drop (i + 1) (states x))) ≡ withId id (live x)) (Option·some-injective _ _ (sym (m .opens) ∙ q))
               (ap (λ (n : ℕ). withId id (liveOf (drop n (r .before)) (drop n (states r)))) (add-one i) ∙ sym e ∙ st .same r (m .opens));

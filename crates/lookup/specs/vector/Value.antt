@@ -37,9 +37,9 @@ use Rattle.lookup.specs.declared.vector.ValuePlace.{ValuePlace}
 use Rattle.lookup.specs.declared.vector.ValuePlace.the-variants.{At as ValueAt, Refused as ValueRefused}
 
 -- where a value lies: the bytes of its width at a place of the file
-unfoldable pub Lies : List ℕ → Value → ValuePlace → Type 0
-Lies f v (ValueAt at dtype) = (v ≡ Stored dtype (take (width dtype) (drop at f))) × ((0 < width dtype) × (at + width dtype ≤ length f))
-Lies f v (ValueRefused n) = v ≡ NoValue n
+unfoldable pub PlacedValue : List ℕ → Value → ValuePlace → Type 0
+PlacedValue f v (ValueAt at dtype) = (v ≡ Stored dtype (take (width dtype) (drop at f))) × ((0 < width dtype) × (at + width dtype ≤ length f))
+PlacedValue f v (ValueRefused n) = v ≡ NoValue n
 
 -- ---- nothing found
 
@@ -64,12 +64,12 @@ module _ (f : List ℕ) (id : ℕ) where
   unfolding vectorCase vectorAfter vectorHit bufferHit
   vector-nowhere buf e = let h = was-nowhere (hitIn f id) e in (sym (ap (vectorHit buf) h), sym (ap (bufferHit buf) h))
 
-  pub value-refused : (i n : ℕ) → locatedOf (hitIn f id) ≡ Refused n → Lies f (valueIn f id i) (ValueRefused n)
-  unfolding Lies valueIn valueHit
+  pub value-refused : (i n : ℕ) → locatedOf (hitIn f id) ≡ Refused n → PlacedValue f (valueIn f id i) (ValueRefused n)
+  unfolding PlacedValue valueIn valueHit
   value-refused i n e = ap (valueHit i) (was-refused (hitIn f id) n e)
 
-  pub value-nowhere : (i : ℕ) → locatedOf (hitIn f id) ≡ Nowhere → Lies f (valueIn f id i) (ValueRefused 8)
-  unfolding Lies valueIn valueHit
+  pub value-nowhere : (i : ℕ) → locatedOf (hitIn f id) ≡ Nowhere → PlacedValue f (valueIn f id i) (ValueRefused 8)
+  unfolding PlacedValue valueIn valueHit
   value-nowhere i e = ap (valueHit i) (was-nowhere (hitIn f id) e)
 
 -- ---- what is found
@@ -149,8 +149,8 @@ module _ (f : List ℕ) (id body len offset count dim dtype index : ℕ) (e : lo
     unfolding valueIn valueHit
     value-found = ap (valueHit i) (found .hit) ∙ rw (found .dim-is, found .dtype-is)
 
-    pub value-past : dim ≤ i → Lies f (valueIn f id i) (ValueRefused 8)
-    unfolding Lies
+    pub value-past : dim ≤ i → PlacedValue f (valueIn f id i) (ValueRefused 8)
+    unfolding PlacedValue
     value-past h = value-found ∙ rw (le-ltb i dim h)
 
     module _ (h : i < dim) where
@@ -173,8 +173,8 @@ module _ (f : List ℕ) (id body len offset count dim dtype index : ℕ) (e : lo
           (part-front (offset + (i * count + index) * width dtype) (width dtype) (body + len - body) (drop body f) (omega (arith, part-length))
           ∙ ap (take (width dtype)) (drop-drop (offset + (i * count + index) * width dtype) body f))
 
-      pub value-here : (w : ℕ) → w ≡ width dtype → Lies f (valueIn f id i) (ValueAt (body + (offset + (i * count + index) * w)) dtype)
-      unfolding Lies
+      pub value-here : (w : ℕ) → w ≡ width dtype → PlacedValue f (valueIn f id i) (ValueAt (body + (offset + (i * count + index) * w)) dtype)
+      unfolding PlacedValue
       value-here w q =
           rw q
           (value-found ∙ rw (lt-ltb i dim h) (ap (Stored dtype) value-bytes), (held-width, value-inside (width dtype) refl .1 .1))
@@ -185,15 +185,15 @@ leOf-one : (b : ℕ) → leOf (b ∷ []) ≡ b
 unfolding leOf
 leOf-one b = omega arith
 
-module _ (f : List ℕ) (v : Value) (p : ValuePlace) (y : Lies f v p) where
+module _ (f : List ℕ) (v : Value) (p : ValuePlace) (y : PlacedValue f v p) where
   pub lies-not : (n : ℕ) → p ≡ ValueRefused n → v ≡ NoValue n
-  unfolding Lies
-  lies-not n e = subst (Lies f v) e y
+  unfolding PlacedValue
+  lies-not n e = subst (PlacedValue f v) e y
 
   module _ (at dtype : ℕ) (e : p ≡ ValueAt at dtype) where
     lies-at : (v ≡ Stored dtype (take (width dtype) (drop at f))) × ((0 < width dtype) × (at + width dtype ≤ length f))
-    unfolding Lies
-    lies-at = subst (Lies f v) e y
+    unfolding PlacedValue
+    lies-at = subst (PlacedValue f v) e y
 
     pub value-room-at : (0 < width dtype) × (at + width dtype ≤ length f)
     value-room-at = lies-at .1

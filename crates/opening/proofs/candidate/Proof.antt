@@ -28,7 +28,7 @@ shared-slice-read-kind c = omega (arith, c .before .before .before .before .befo
 is-confirmed-requires : tie.Need-is-confirmed-requires
 is-confirmed-requires c κs =
     let s = c .before .before .before .before .before in
-    let few = stored-few _ _ _ (s .pre .0 .0) in (
+    let at-most = stored-few _ _ _ (s .pre .0 .0) in (
       (omega arith, omega (arith, s .pre .1 .room, s .pre .1 .length-is, c .before .before .u64-at .ensures)),
       candidate-inside _ _ _ _ _ (s .pre .0 .0) (s .pre .0 .1 .0) (s .pre .1),
     )

@@ -1,6 +1,6 @@
 -- `segment::content_hash` meets its contract: the checksum laid over zeros.
 -- Assumes nothing.
-use Rattle.segment.specs.Ways.{hash-laid}
+use Rattle.segment.specs.HeaderLaws.{hash-laid}
 use borrow.Author.Needs.{needs}
 use Rattle.segment.proofs.content_hash.Statement.{statement}
 use Rattle.segment.proofs.content_hash.Tie as tie

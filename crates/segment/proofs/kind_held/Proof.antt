@@ -1,7 +1,7 @@
 -- `segment::kind_held` meets its contract, by its ways out.
 -- Assumes nothing.
 use native.Mathlib.Omega.{arith}
-use Rattle.segment.specs.Ways.{kind-low, kind-named, kind-extension}
+use Rattle.segment.specs.HeaderLaws.{kind-low, kind-named, kind-extension}
 use Rattle.segment.proofs.kind_held.Statement.{statement}
 use Rattle.segment.proofs.kind_held.Tie as tie
 

@@ -38,23 +38,23 @@ module _ {L : Type 0} (confirmed : List L → L → Bool) where
   last-never ls xs t = scan-append [] ls xs none ∙ scan-never ls xs (scan confirmed [] ls none) t
 
   -- where the last confirmed link stands
-  pub record Stands (ls : List L) (r : Found L) : Type 0 where
+  pub record LastIn (ls : List L) (r : Found L) : Type 0 where
     pub rest : List L
     pub split : ls ≡ r .before ++ r .link ∷ rest
     pub holds : confirmed (r .before) (r .link) ≡ true
 
-  stands : (p ls : List L) (best : Option (Found L)) (r : Found L) → scan confirmed p ls best ≡ some r → (best ≡ some r) ⊎ Stands (p ++ ls) r
+  stands : (p ls : List L) (best : Option (Found L)) (r : Found L) → scan confirmed p ls best ≡ some r → (best ≡ some r) ⊎ LastIn (p ++ ls) r
   unfolding scan
   stands p [] best r e = inl e
   stands p (l ∷ ls) best r e = go (confirmed p l) refl (stands (p ++ l ∷ []) ls _ r e)
     where
-      go : (b : Bool) → confirmed p l ≡ b → (cond (confirmed p l) (some (record { before = p; link = l })) best ≡ some r) ⊎ Stands (p ++ l ∷ [] ++ ls) r
-          → (best ≡ some r) ⊎ Stands (p ++ l ∷ ls) r
+      go : (b : Bool) → confirmed p l ≡ b → (cond (confirmed p l) (some (record { before = p; link = l })) best ≡ some r) ⊎ LastIn (p ++ l ∷ [] ++ ls) r
+          → (best ≡ some r) ⊎ LastIn (p ++ l ∷ ls) r
       go b h (inr s) = inr (rw append-assoc at s)
-      go true h (inl q) = inr (subst (λ (x : Found L). Stands (p ++ l ∷ ls) x) (Option·some-injective _ _ (rw h at q)) (record { rest = ls; split = refl; holds = h }))
+      go true h (inl q) = inr (subst (λ (x : Found L). LastIn (p ++ l ∷ ls) x) (Option·some-injective _ _ (rw h at q)) (record { rest = ls; split = refl; holds = h }))
       go false h (inl q) = inl (rw h at q)
 
-  pub last-stands : (ls : List L) (r : Found L) → lastConfirmed confirmed ls ≡ some r → Stands ls r
+  pub last-stands : (ls : List L) (r : Found L) → lastConfirmed confirmed ls ≡ some r → LastIn ls r
   unfolding lastConfirmed
   last-stands ls r e = ⊎-elim (λ n. absurd (Option·some-ne-none r (sym n))) (λ s. s) (stands [] ls none r e)
 
@@ -72,7 +72,7 @@ module _ {L : Type 0} (confirmed : List L → L → Bool) where
     where
       go : (o : Option (Found L)) → lastConfirmed confirmed ls ≡ o → (zs : List L) × (ls ≡ upTo confirmed o ++ zs)
       go none e = (ls, refl)
-      go (some r) e = let s : Stands ls r = last-stands ls r e in (s .rest, s .split ∙ sym (append-assoc (r .before) (r .link ∷ []) (s .rest)))
+      go (some r) e = let s : LastIn ls r = last-stands ls r e in (s .rest, s .split ∙ sym (append-assoc (r .before) (r .link ∷ []) (s .rest)))
 
 -- ---- the store over a format: opening, and what an append's new bytes do to it
 module _ {S L : Type 0} (R : Reader S L) (confirmed : List L → L → Bool) (st : S) where

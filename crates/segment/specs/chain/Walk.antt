@@ -25,7 +25,7 @@ module _ {S L : Type 0} (R : Reader S L) where
 
   -- a loop that has passed n links and stands behind them
   pub record Walked (st : S) (f : List ℕ) (n at : ℕ) : Type 0 where
-    pub few : n ≤ length (walk R st f)
+    pub at-most : n ≤ length (walk R st f)
     pub place : at ≡ sizes R (take n (walk R st f))
 
   module _ (F : Format R) where
@@ -71,7 +71,7 @@ module _ {S L : Type 0} (R : Reader S L) where
 
     pub walked-first : (st : S) (f : List ℕ) → Walked st f 0 0
     unfolding sizes
-    walked-first st f = record { few = omega arith; place = refl }
+    walked-first st f = record { at-most = omega arith; place = refl }
 
     module _ (st : S) (f : List ℕ) (n at : ℕ) (w : Walked st f n at) where
       abbrev chain : List L
@@ -92,7 +92,7 @@ module _ {S L : Type 0} (R : Reader S L) where
       pub walked-stop : linkAt (stateAfter n st f) (drop at f) ≡ none → n ≡ length chain
       walked-stop e =
           let z : drop n chain ≡ [] = sym walked-rest ∙ walk-none R F (stateAfter n st f) (drop at f) e in
-          let h : n ≤ length chain = w .few in
+          let h : n ≤ length chain = w .at-most in
           let k : length chain - n ≡ 0 = sym (length-drop n chain) ∙ ap length z in
           omega arith
 
@@ -118,7 +118,7 @@ module _ {S L : Type 0} (R : Reader S L) where
         walked-next =
             let p : length chain - n ≡ suc (length (walk R (after (stateAfter n st f) l) (drop (size l) (drop at f)))) = sym (length-drop n chain) ∙ ap length next-drop in
             record {
-              few = omega arith;
+              at-most = omega arith;
               place = rw (walked-link, sizes-append (take n chain) (l ∷ []), ← (w .place)) (omega arith);
             }
 

@@ -29,7 +29,7 @@ Bounded confirmed = (b : List Link) (l : Link) → maxEntries < length b → con
 pub record DownAt (confirmed : List Link → Link → Bool) (f offsets : List ℕ) (n p k : ℕ) : Type 0 where
   pub search : SearchAt confirmed f p
   pub stored : Stored f offsets n
-  pub few : k ≤ n
+  pub at-most : k ≤ n
   pub low : (i : ℕ) → i < k → getD offsets i 0 < p
   pub high : (i : ℕ) → k ≤ i → i < n → p ≤ getD offsets i 0
 
@@ -46,7 +46,7 @@ module _ (confirmed : List Link → Link → Bool) (f offsets : List ℕ) (n : �
       record {
         search = search-first confirmed f;
         stored = s;
-        few = omega arith;
+        at-most = omega arith;
         low = λ i h. (let a = numbered-at f offsets n s i h .room in let b = stored-aligned f offsets n s i h in omega arith);
         high = λ i h k. absurd (omega arith);
       }
@@ -57,7 +57,7 @@ module _ (confirmed : List Link → Link → Bool) (f offsets : List ℕ) (n : �
 
     -- the link that the number k - 1 says, where its offset is the boundary below
     pub down-link : 0 < k → getD offsets (k - 1) 0 ≡ p - 64 → Numbered f (p - 64) (k - 1) (linkNo f (k - 1))
-    down-link h e = let few : k ≤ n = d .few in rw e at (numbered-at f offsets n (d .stored) (k - 1) (omega arith))
+    down-link h e = let at-most : k ≤ n = d .at-most in rw e at (numbered-at f offsets n (d .stored) (k - 1) (omega arith))
 
     -- a stored offset below number k is at most the one at k - 1
     to-last : (i : ℕ) → i < k → getD offsets i 0 ≤ getD offsets (k - 1) 0
@@ -66,7 +66,7 @@ module _ (confirmed : List Link → Link → Bool) (f offsets : List ℕ) (n : �
         go : Dec (k - 1 ≤ i) → getD offsets i 0 ≤ getD offsets (k - 1) 0
         go (yes q) = let e : i ≡ k - 1 = omega arith in omega (arith, ap (λ (m : ℕ). getD offsets m 0) e)
         go (no q) =
-            let few : k ≤ n = d .few in
+            let at-most : k ≤ n = d .at-most in
             let r = stored-rise f offsets n (d .stored) i (k - 1) (lt-of-not-le q) (omega arith) in
             omega arith
 
@@ -85,7 +85,7 @@ module _ (confirmed : List Link → Link → Bool) (f offsets : List ℕ) (n : �
           go : Dec (k - 1 ≤ i) → i ≡ k - 1
           go (yes q) = omega arith
           go (no q) =
-              let few : k ≤ n = d .few in
+              let at-most : k ≤ n = d .at-most in
               let a = stored-rise f offsets n (d .stored) i (k - 1) (lt-of-not-le q) (omega arith) in
               let b = d .low (k - 1) (omega arith) in
               absurd (omega arith)
@@ -118,7 +118,7 @@ module _ (confirmed : List Link → Link → Bool) (f offsets : List ℕ) (n : �
           record {
             search = search-down confirmed f (p - 64) (above h) (λ b z l a. ⊎-elim (λ e. e) (λ q. absurd (none-there (q .0) (q .1 .0))) (candidate bound b z l a));
             stored = d .stored;
-            few = d .few;
+            at-most = d .at-most;
             low = λ i j. (let a = to-last i j in let b = last-below (omega arith) in omega arith);
             high = λ i j m. (let a = d .high i j m in omega arith);
           }
@@ -128,7 +128,7 @@ module _ (confirmed : List Link → Link → Bool) (f offsets : List ℕ) (n : �
             where
               go : Dec (p - 64 ≤ getD offsets (k - 1) 0) → getD offsets (k - 1) 0 < p - 64
               go (yes q) =
-                  let few : k ≤ n = d .few in
+                  let at-most : k ≤ n = d .at-most in
                   let a : p % 64 ≡ 0 = d .search .aligned in
                   let b = stored-aligned f offsets n (d .stored) (k - 1) (omega arith) in
                   let c = d .low (k - 1) (omega arith) in
@@ -142,8 +142,8 @@ module _ (confirmed : List Link → Link → Bool) (f offsets : List ℕ) (n : �
             record {
               search = search-down confirmed f (p - 64) (above h) (λ b z l a. ⊎-elim (λ q. q) (λ q. rw (q .1 .1 .0, q .1 .1 .1) e) (candidate bound b z l a));
               stored = d .stored;
-              few = let few : k ≤ n = d .few in omega arith;
-              low = λ i j. (let few : k ≤ n = d .few in let a = stored-rise f offsets n (d .stored) i (k - 1) j (omega arith) in omega arith);
+              at-most = let at-most : k ≤ n = d .at-most in omega arith;
+              low = λ i j. (let at-most : k ≤ n = d .at-most in let a = stored-rise f offsets n (d .stored) i (k - 1) j (omega arith) in omega arith);
               high = λ i j m. up i j m (decLe k i);
             }
           where

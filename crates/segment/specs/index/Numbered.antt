@@ -86,7 +86,7 @@ module _ (f : List ℕ) (p i : ℕ) (h : i < length (chain f)) (place : sizes re
 -- of the stored ones, by what is stored
 pub numbered-at : (f offsets : List ℕ) (n : ℕ) → Stored f offsets n → (i : ℕ) → i < n → Numbered f (getD offsets i 0) i (linkNo f i)
 numbered-at f offsets n s i h =
-    let few = stored-few f offsets n s in
+    let at-most = stored-few f offsets n s in
     numbered f (getD offsets i 0) i (omega arith) (sym (stored-at f offsets n s i h))
 
 -- a link with those before it is the one with their number

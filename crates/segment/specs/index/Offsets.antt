@@ -64,7 +64,7 @@ module _ (f offsets : List ℕ) (n : ℕ) (s : Stored f offsets n) where
   pub stored-at : (i : ℕ) → i < n → getD offsets i 0 ≡ sizes reader (take i (chain f))
   stored-at i h =
       let c : n ≡ length (take most (chain f)) = s .count in
-      let few = stored-few in
+      let at-most = stored-few in
       let k : i < length (chain f) = omega arith in
       sym (getD-take n offsets i 0 h)
       ∙ ap (λ (xs : List ℕ). getD xs i 0) (s .stored)
@@ -74,7 +74,7 @@ module _ (f offsets : List ℕ) (n : ℕ) (s : Stored f offsets n) where
 
   pub stored-rise : (i j : ℕ) → i < j → j < n → getD offsets i 0 + 64 ≤ getD offsets j 0
   stored-rise i j h k =
-      let few = stored-few in
+      let at-most = stored-few in
       let a = stored-at i (omega arith) in
       let b = stored-at j k in
       let r = places-rise (chain f) i j h (omega arith) in
@@ -88,29 +88,29 @@ module _ (f offsets : List ℕ) (n : ℕ) (s : Stored f offsets n) where
 -- n links are passed, and their offsets are stored
 pub record CollectAt (f : List ℕ) (n at : ℕ) (first : Bool) (prev : ℕ) (offsets : List ℕ) : Type 0 where
   pub walked : ChainAt f n at first prev
-  pub few : n ≤ most
+  pub at-most : n ≤ most
   pub stored : take n offsets ≡ offsetsOf (take n (chain f))
 
 pub collect-first : (f : List ℕ) (prev : ℕ) (offsets : List ℕ) → CollectAt f 0 0 true prev offsets
-collect-first f prev offsets = record { walked = chain-first f prev; few = omega arith; stored = refl }
+collect-first f prev offsets = record { walked = chain-first f prev; at-most = omega arith; stored = refl }
 
 module _ (f : List ℕ) (n at : ℕ) (first : Bool) (prev : ℕ) (offsets : List ℕ) (c : CollectAt f n at first prev offsets) where
   -- what the links passed say of those that can matter, where these are the same
   whole : take n (chain f) ≡ take most (chain f) → (n ≡ length (take most (chain f))) × (take n offsets ≡ offsetsOf (take most (chain f)))
   whole e =
-      (sym (length-take-le n (chain f) (c .walked .walked .few)) ∙ ap length e, c .stored ∙ ap offsetsOf e)
+      (sym (length-take-le n (chain f) (c .walked .walked .at-most)) ∙ ap length e, c .stored ∙ ap offsetsOf e)
 
   -- the chain stops
   pub collect-stop : stepAt f at first prev ≡ Stop → (n ≡ length (take most (chain f))) × (take n offsets ≡ offsetsOf (take most (chain f)))
   collect-stop e =
-      let few : n ≤ most = c .few in
+      let at-most : n ≤ most = c .at-most in
       let k = chain-count f n at first prev (c .walked) e in
       whole (chain-stop f n at first prev (c .walked) e ∙ sym (take-all most (chain f) (omega arith)))
 
   -- as many links are passed as can matter
   pub collect-full : most ≤ n → (n ≡ length (take most (chain f))) × (take n offsets ≡ offsetsOf (take most (chain f)))
   collect-full h =
-      let few : n ≤ most = c .few in
+      let at-most : n ≤ most = c .at-most in
       let e : n ≡ most = omega arith in
       whole (ap (λ (k : ℕ). take k (chain f)) e)
 
@@ -121,7 +121,7 @@ module _ (f : List ℕ) (n at : ℕ) (first : Bool) (prev : ℕ) (offsets : List
       let s = step-link f at first prev end id len kind flags e in
       record {
         walked = chain-next f n at first prev (c .walked) end id len kind flags e;
-        few = omega arith;
+        at-most = omega arith;
         stored =
             ap (λ (m : ℕ). take m (set offsets n at)) (add-one n)
             ∙ take-suc-set offsets n at k

@@ -43,4 +43,4 @@ pub turn-good : (s : List ℕ) (n i : ℕ) → LinesAt s n i → i < n → lines
 turn-good s n i st h z count dim c d =
     let g = lines-good s n i st h z in
     let l = line-is s (4 + 12 * i) in
-    (omega (arith, g .one, l .count, c), omega (arith, g .most, l .count, c), omega (arith, g .few, l .dim, d))
+    (omega (arith, g .one, l .count, c), omega (arith, g .most, l .count, c), omega (arith, g .at-most, l .dim, d))

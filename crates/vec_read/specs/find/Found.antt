@@ -38,12 +38,12 @@ same-place k p q r u = rw (p, q, r, u)
 -- ---- where the search stands: blocks from j on do not hold the id
 
 pub record SearchAt (s : List ℕ) (id j : ℕ) : Type 0 where
-  pub few : j ≤ blockCount s
+  pub at-most : j ≤ blockCount s
   pub same : findUpTo j s id ≡ findIn s id
 
 pub search-first : (s : List ℕ) (id : ℕ) → SearchAt s id (blockCount s)
 unfolding findIn
-search-first s id = record { few = omega arith; same = refl }
+search-first s id = record { at-most = omega arith; same = refl }
 
 pub search-last : (s : List ℕ) (id j : ℕ) → SearchAt s id j → j ≡ 0 → Missing ≡ foundOf (findIn s id)
 unfolding findUpTo foundOf
@@ -54,7 +54,7 @@ module _ (s : List ℕ) (ok : checkOf s ≡ 0) (id j : ℕ) (st : SearchAt s id 
     (o : offset ≡ leAt 4 s (4 + 12 * (j - 1))) (c : count ≡ leAt 4 s (4 + 12 * (j - 1) + 4)) (d : dim ≡ leAt 2 s (4 + 12 * (j - 1) + 8))
     (t : dtype ≡ getD s (4 + 12 * (j - 1) + 10) 0) (ww : w ≡ width dtype) where
   good : IdsGood s (j - 1)
-  good = let few = st .few in ids-good s ok (j - 1) (omega arith)
+  good = let at-most = st .at-most in ids-good s ok (j - 1) (omega arith)
 
   line-offset : lineAt s (j - 1) .offset ≡ offset
   unfolding lineAt
@@ -79,7 +79,7 @@ module _ (s : List ℕ) (ok : checkOf s ≡ 0) (id j : ℕ) (st : SearchAt s id 
   pub turn-bounds : (1 ≤ count) × (count ≤ 4096) × (dim ≤ 1024)
   turn-bounds =
       let g = good .line in
-      (omega (arith, g .one, line-count), omega (arith, g .most, line-count), omega (arith, g .few, line-dim))
+      (omega (arith, g .one, line-count), omega (arith, g .most, line-count), omega (arith, g .at-most, line-dim))
 
   pub turn-room : offset + count * dim * w ≤ length s
   turn-room = omega (arith, good .room, line-offset, columns)
@@ -119,8 +119,8 @@ module _ (s : List ℕ) (ok : checkOf s ≡ 0) (id j : ℕ) (st : SearchAt s id 
   pub turn-on : (own : List ℕ) → Filled (mapOf count (take (length s - (offset + count * dim * w)) (drop (offset + count * dim * w) s))) own
       → indexAnswer (indexOf id (take count own)) ≡ Nowhere → SearchAt s id (j - 1)
   turn-on own f p =
-      let few = st .few in
+      let at-most = st .at-most in
       let at : indexOf id (idsAt s (j - 1)) ≡ none = rw (own-ids own f) at (was-nowhere _ p) in
       let e : suc (j - 1) ≡ j = omega arith in
       let q : findUpTo j s id ≡ findUpTo (j - 1) s id = rw e at (find-on s id (j - 1) at) in
-      record { few = omega arith; same = sym q ∙ st .same }
+      record { at-most = omega arith; same = sym q ∙ st .same }

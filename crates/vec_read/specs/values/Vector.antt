@@ -32,7 +32,7 @@ vector-with s p = values-with s p (p .line .dim) 0
 
 pub record Bounds (n offset count dim w index : ℕ) : Type 0 where
   pub most : count ≤ 4096
-  pub few : dim ≤ 1024
+  pub at-most : dim ≤ 1024
   pub small : w ≤ 4
   pub room : offset + count * dim * w ≤ n
   pub index-in : index < count
@@ -46,7 +46,7 @@ pub record ValueRoom (n offset count dim w index d : ℕ) : Type 0 where
 pub value-room : (n offset count dim w index d : ℕ) → Bounds n offset count dim w index → d < dim → ValueRoom n offset count dim w index d
 value-room n offset count dim w index d b h =
     let most = b .most in
-    let few = b .few in
+    let at-most = b .at-most in
     let small = b .small in
     let index-in = b .index-in in
     let rows : suc d * count ≤ dim * count = mul-le-mul h (omega arith) in
@@ -56,11 +56,11 @@ value-room n offset count dim w index d b h =
     let f : suc (d * count + index) * w ≡ (d * count + index) * w + w = suc-mul (d * count + index) w in
     let row : d * count ≤ 1024 * 4096 = mul-le-mul {n₂ = 1024} {m₂ = 4096} (omega arith) most in
     let up : suc d * w ≤ dim * w = mul-le-mul h (omega arith) in
-    let all : dim * w ≤ 1024 * 4 = mul-le-mul few small in
+    let all : dim * w ≤ 1024 * 4 = mul-le-mul at-most small in
     record { row = row; from = omega (arith, b .room); to = omega (arith, suc-mul d w); all = all }
 
 pub all-room : (n offset count dim w index : ℕ) → Bounds n offset count dim w index → dim * w ≤ 4096
-all-room n offset count dim w index b = mul-le-mul (b .few) (b .small)
+all-room n offset count dim w index b = mul-le-mul (b .at-most) (b .small)
 
 -- ---- the values
 
@@ -75,8 +75,8 @@ values-more s p (suc n) d =
 
 -- where the loop stands: d values are written at the front of the buffer
 pub record VectorAt (s : List ℕ) (offset count dim dtype index : ℕ) (buf₀ buf : List ℕ) (d : ℕ) : Type 0 where
-  pub few : d ≤ dim
-  pub long : length buf ≡ length buf₀
+  pub at-most : d ≤ dim
+  pub same-length : length buf ≡ length buf₀
   pub laid : buf ≡ over buf₀ 0 (valuesFrom s (placeWith offset count dim dtype index) d 0)
 
 module _ (s : List ℕ) (offset count dim dtype index : ℕ) (b : Bounds (length s) offset count dim (width dtype) index) where
@@ -104,7 +104,7 @@ module _ (s : List ℕ) (offset count dim dtype index : ℕ) (b : Bounds (length
 
   pub vector-first : (buf : List ℕ) → VectorAt s offset count dim dtype index buf buf 0
   unfolding valuesFrom
-  vector-first buf = record { few = omega arith; long = refl; laid = sym (over-none buf 0) }
+  vector-first buf = record { at-most = omega arith; same-length = refl; laid = sym (over-none buf 0) }
 
   -- the part of the buffer from the next value's place on came back with that value at its front
   pub vector-next : (buf₀ buf ys : List ℕ) (d : ℕ) → VectorAt s offset count dim dtype index buf₀ buf d → d < dim → dim * width dtype ≤ length buf₀
@@ -112,7 +112,7 @@ module _ (s : List ℕ) (offset count dim dtype index : ℕ) (b : Bounds (length
       (take (offset + (d * count + index) * width dtype + width dtype - (offset + (d * count + index) * width dtype)) (drop (offset + (d * count + index) * width dtype) s))
       → VectorAt s offset count dim dtype index buf₀ (putMid (d * width dtype) (length buf - d * width dtype) buf ys) (d + 1)
   vector-next buf₀ buf ys d st h room p =
-      let long = st .long in
+      let same-length = st .same-length in
       let w : ℕ = width dtype in
       let at : ℕ = offset + (d * count + index) * width dtype in
       let v : List ℕ = valueAt s (placeWith offset count dim dtype index) d in
@@ -130,14 +130,14 @@ module _ (s : List ℕ) (offset count dim dtype index : ℕ) (b : Bounds (length
       let m2 : valuesFrom s (placeWith offset count dim dtype index) (suc d) 0 ≡ valuesFrom s (placeWith offset count dim dtype index) d 0 ++ v = m ∙ rw (zero-add d) in
       let three : putMid (d * w) (length buf - d * w) buf ys ≡ over buf₀ 0 (valuesFrom s (placeWith offset count dim dtype index) (suc d) 0) = one ∙ two2 ∙ rw m2 in
       record {
-        few = omega arith;
-        long = ap length three ∙ length-over buf₀ 0 (valuesFrom s (placeWith offset count dim dtype index) (suc d) 0) (omega (arith, values-length (suc d) h, suc-mul d (width dtype)));
+        at-most = omega arith;
+        same-length = ap length three ∙ length-over buf₀ 0 (valuesFrom s (placeWith offset count dim dtype index) (suc d) 0) (omega (arith, values-length (suc d) h, suc-mul d (width dtype)));
         laid = rw add-one three;
       }
 
   pub vector-last : (buf₀ buf : List ℕ) (d : ℕ) → VectorAt s offset count dim dtype index buf₀ buf d → dim ≤ d → buf ≡ over buf₀ 0 (vectorOf s (placeWith offset count dim dtype index))
   unfolding vectorOf placeWith
   vector-last buf₀ buf d st h =
-      let few = st .few in
+      let at-most = st .at-most in
       let e : d ≡ dim = omega arith in
       rw e at (st .laid)

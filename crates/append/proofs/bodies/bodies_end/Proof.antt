@@ -37,8 +37,8 @@ module _ (b : tie.In-loop Inv-loop μ-loop) where
       let u = b .before .before .u32-at in
       omega (arith, bodies-count (s .args .batch .now), count-is (s .args .batch .now) (u .result) (u .ensures))
 
-  few : b .before .loop .j < 16
-  few = omega (arith, more, bodies-count (s .args .batch .now), held-bounds (s .args .batch .now) (s .pre .0))
+  at-most : b .before .loop .j < 16
+  at-most = omega (arith, more, bodies-count (s .args .batch .now), held-bounds (s .args .batch .now) (s .pre .0))
 
   line : BodyAt (s .args .batch .now) (b .before .loop .j)
   line = body-at (s .args .batch .now) (s .pre .0) (b .before .loop .j) (omega (arith, more, bodies-count (s .args .batch .now)))
@@ -46,15 +46,15 @@ module _ (b : tie.In-loop Inv-loop μ-loop) where
 add-at : tie.Need-add-at Inv-loop μ-loop
 add-at c =
     let b = c .before .before in
-    omega (arith, few b, round64-lt (c .before .u32-at2 .result), b .before .loop .inv .small, c .round-up .ensures, s b .pre .1)
+    omega (arith, at-most b, round64-lt (c .before .u32-at2 .result), b .before .loop .inv .small, c .round-up .ensures, s b .pre .1)
 
 add-at-2 : tie.Need-add-at-2 Inv-loop μ-loop
 add-at-2 c =
     let b = c .before .before in
-    omega (arith, few b, round64-lt (c .before .u32-at2 .result), b .before .loop .inv .small, c .round-up .ensures, s b .pre .1)
+    omega (arith, at-most b, round64-lt (c .before .u32-at2 .result), b .before .loop .inv .small, c .round-up .ensures, s b .pre .1)
 
 add-j : tie.Need-add-j Inv-loop μ-loop
-add-j c = omega (arith, few (c .before .before))
+add-j c = omega (arith, at-most (c .before .before))
 
 loop-again : tie.Need-loop-again Inv-loop μ-loop
 loop-again c =

@@ -1,7 +1,7 @@
 -- `commit::ids_over` meets its contract.
 -- Assumes nothing.
 use native.Mathlib.Omega.{arith}
-use Rattle.append.specs.commit.Late.{over-first, over-later}
+use Rattle.append.specs.commit.Commit.{over-first, over-later}
 use borrow.Author.Needs.{needs}
 use Rattle.append.proofs.commit.ids_over.Statement.{statement}
 use Rattle.append.proofs.commit.ids_over.Tie as tie

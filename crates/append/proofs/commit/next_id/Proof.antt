@@ -1,7 +1,7 @@
 -- `commit::next_id` meets its contract.
 -- Assumes nothing.
 use native.Mathlib.Omega.{arith}
-use Rattle.append.specs.commit.Late.{next-first, next-later}
+use Rattle.append.specs.commit.Commit.{next-first, next-later}
 use Rattle.append.proofs.commit.next_id.Statement.{statement}
 use Rattle.append.proofs.commit.next_id.Tie as tie
 

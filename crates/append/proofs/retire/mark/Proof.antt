@@ -22,7 +22,7 @@ loop-holds : tie.Need-loop-holds Inv-loop μ-loop
 loop-holds c = mark-first _ _ _ _ (c .before .before .before .before .pre .0 .1)
 
 same-length : tie.Need-same-length Inv-loop μ-loop
-same-length c = c .before .before .before .before .before .loop .inv .long
+same-length c = c .before .before .before .before .before .loop .inv .same-length
 
 returns : tie.Need-returns Inv-loop μ-loop
 returns c = (
@@ -44,13 +44,13 @@ module _ (p : tie.After-place Inv-loop μ-loop) where
   within =
       let e = rw take-length at (was-place _ _ (sym (p .before .before .index-of .ensures) ∙ p .place .given .1)) in
       let i = index-within _ _ _ e in
-      (omega (arith, i, s .pre .0), omega (arith, i, s .pre .0, l .loop .inv .long))
+      (omega (arith, i, s .pre .0), omega (arith, i, s .pre .0, l .loop .inv .same-length))
 
 shared-slice-read-if1 : tie.Need-shared-slice-read-if1 Inv-loop μ-loop
 shared-slice-read-if1 c = omega (arith, within (c .before .before))
 
 same-length-2 : tie.Need-same-length-2 Inv-loop μ-loop
-same-length-2 c = c .before .before .before .before .before .before .before .before .loop .inv .long
+same-length-2 c = c .before .before .before .before .before .before .before .before .loop .inv .same-length
 
 returns-2 : tie.Need-returns-2 Inv-loop μ-loop
 returns-2 c =
@@ -65,7 +65,7 @@ slice-read-if2 : tie.Need-slice-read-if2 Inv-loop μ-loop
 slice-read-if2 c = omega (arith, within (c .before .before .before .before))
 
 same-length-3 : tie.Need-same-length-3 Inv-loop μ-loop
-same-length-3 c = c .before .before .before .before .before .before .before .before .before .before .loop .inv .long
+same-length-3 c = c .before .before .before .before .before .before .before .before .before .before .loop .inv .same-length
 
 returns-3 : tie.Need-returns-3 Inv-loop μ-loop
 returns-3 c =
@@ -87,7 +87,7 @@ loop-again c =
     (c .before .before .if1 .left) (c .if2 .left)
 
 same-length-4 : tie.Need-same-length-4 Inv-loop μ-loop
-same-length-4 c = c .before .loop .inv .long
+same-length-4 c = c .before .loop .inv .same-length
 
 returns-4 : tie.Need-returns-4 Inv-loop μ-loop
 returns-4 c = (mark-last _ _ _ _ _ _ (c .before .loop .inv) (omega arith), λ q. mark-states _ _ _ _ _ _ (c .before .loop .inv) (omega arith))

@@ -5,7 +5,7 @@ use lib.ListN.{length}
 use mathlib.Core.Path.{sym}
 use native.Mathlib.Omega.{arith}
 use lib.Seq.{length-take-le}
-use Rattle.claim_uses.specs.cut.Ways.{says-short, says-refused, says-whole, within, start-le, end-room, says-read}
+use Rattle.claim_uses.specs.cut.CutReadLaws.{says-short, says-refused, says-whole, within, start-le, end-room, says-read}
 use borrow.Author.Needs.{needs}
 use Rattle.claim_uses.proofs.cut.append_and_cut.Statement.{statement}
 use Rattle.claim_uses.proofs.cut.append_and_cut.Tie as tie

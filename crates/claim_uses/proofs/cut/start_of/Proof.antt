@@ -1,7 +1,7 @@
 -- `start_of` meets its contract, by what opening answers.
 -- Assumes nothing.
 use mathlib.Core.Path.{sym, _∙_}
-use Rattle.claim_uses.specs.cut.Ways.{start-refused, start-none, start-at}
+use Rattle.claim_uses.specs.cut.CutReadLaws.{start-refused, start-none, start-at}
 use borrow.Author.Needs.{needs}
 use Rattle.claim_uses.proofs.cut.start_of.Statement.{statement}
 use Rattle.claim_uses.proofs.cut.start_of.Tie as tie

@@ -4,7 +4,7 @@ use Prim.Native.Nat.{_≤_}
 use lib.ListN.{length}
 use mathlib.Core.Path.{sym, _∙_}
 use lib.Seq.{length-take-le}
-use Rattle.claim_uses.specs.twice.Ways.{end-inside, way-at, way-none, way-long, way-first, way-second}
+use Rattle.claim_uses.specs.twice.TwiceLaws.{end-inside, way-at, way-none, way-long, way-first, way-second}
 use borrow.Author.Needs.{needs}
 use Rattle.claim_uses.proofs.twice.append_twice.Statement.{statement}
 use Rattle.claim_uses.proofs.twice.append_twice.Tie as tie

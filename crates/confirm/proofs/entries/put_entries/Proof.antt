@@ -20,7 +20,7 @@ loop-holds c = entries-first _ _ _ _
 put-entry-requires : tie.Need-put-entry-requires Inv-loop μ-loop
 put-entry-requires c κs =
     let l = c .before .before .before .before in
-    let long = l .loop .inv .long in (omega arith, l .before .before .before .before .before .pre .1 (l .loop .i) (omega arith))
+    let same-length = l .loop .inv .same-length in (omega arith, l .before .before .before .before .before .pre .1 (l .loop .i) (omega arith))
 
 loop-again : tie.Need-loop-again Inv-loop μ-loop
 loop-again c =
@@ -30,7 +30,7 @@ loop-again c =
     entries-next _ _ _ _ _ _ (l .loop .i) (l .loop .inv) (omega arith) (s .pre .1) (s .pre .0 .0) (pe .put-entry .ensures) (pe .put-entry .kept .0)
 
 same-length : tie.Need-same-length Inv-loop μ-loop
-same-length c = c .before .loop .inv .long
+same-length c = c .before .loop .inv .same-length
 
 returns : tie.Need-returns Inv-loop μ-loop
 returns c = entries-last _ _ _ _ _ (c .before .loop .i) (c .before .loop .inv) (omega arith)

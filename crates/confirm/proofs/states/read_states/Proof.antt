@@ -17,7 +17,7 @@ loop-holds : tie.Need-loop-holds Inv-loop μ-loop
 loop-holds c = read-first _ _ _
 
 slice-write-states : tie.Need-slice-write-states Inv-loop μ-loop
-slice-write-states c = let long = c .before .before .loop .inv .long in omega arith
+slice-write-states c = let same-length = c .before .before .loop .inv .same-length in omega arith
 
 loop-again : tie.Need-loop-again Inv-loop μ-loop
 loop-again c =
@@ -25,7 +25,7 @@ loop-again c =
     read-next _ _ _ _ (l .loop .i) (l .loop .inv) (omega arith) (l .before .pre .0)
 
 same-length : tie.Need-same-length Inv-loop μ-loop
-same-length c = c .before .loop .inv .long
+same-length c = c .before .loop .inv .same-length
 
 returns : tie.Need-returns Inv-loop μ-loop
 returns c = read-last _ _ _ _ (c .before .loop .i) (c .before .loop .inv) (omega arith)

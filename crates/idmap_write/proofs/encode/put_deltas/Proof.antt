@@ -61,7 +61,7 @@ loop-again c =
     (rw d at (p .put .ensures .1)) (rw d at (p .put .ensures .0)) (p .put .kept .0 ∙ pr .put-restart .kept .0))
 
 same-length : tie.Need-same-length Inv-loop μ-loop
-same-length c = c .before .loop .inv .long
+same-length c = c .before .loop .inv .same-length
 
 returns : tie.Need-returns Inv-loop μ-loop
 returns c =

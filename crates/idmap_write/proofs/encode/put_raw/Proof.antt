@@ -18,7 +18,7 @@ loop-holds : tie.Need-loop-holds Inv-loop μ-loop
 loop-holds c = raw-first _ _
 
 put-requires : tie.Need-put-requires Inv-loop μ-loop
-put-requires c κs = let long = c .before .before .before .loop .inv .long in omega arith
+put-requires c κs = let same-length = c .before .before .before .loop .inv .same-length in omega arith
 
 loop-again : tie.Need-loop-again Inv-loop μ-loop
 loop-again c =
@@ -27,7 +27,7 @@ loop-again c =
     raw-next _ _ _ _ (l .loop .i) (l .loop .inv) (omega arith) (l .before .before .before .pre) (p .put .ensures) (p .put .kept .0)
 
 same-length : tie.Need-same-length Inv-loop μ-loop
-same-length c = c .before .loop .inv .long
+same-length c = c .before .loop .inv .same-length
 
 returns : tie.Need-returns Inv-loop μ-loop
 returns c = raw-last _ _ _ (c .before .loop .i) (c .before .loop .inv) (omega arith)

@@ -1,6 +1,6 @@
 -- `idmap_refusal::interval_held` meets its contract.
 -- Assumes nothing.
-use Rattle.idmap_write.specs.refusal.Ways.{held-raw, held-delta, held-not}
+use Rattle.idmap_write.specs.refusal.RefusalLaws.{held-raw, held-delta, held-not}
 use Rattle.idmap_write.proofs.refusal.interval_held.Statement.{statement}
 use Rattle.idmap_write.proofs.refusal.interval_held.Tie as tie
 

@@ -3,7 +3,7 @@
 use mathlib.Core.Path.{_≡_, sym, _∙_}
 use native.Mathlib.Omega.{arith}
 use borrow.Author.Tests.{not-true, not-false}
-use Rattle.idmap_write.specs.refusal.Ways.{bad-none, bad-many, bad-interval, bad-ids, bad-not}
+use Rattle.idmap_write.specs.refusal.RefusalLaws.{bad-none, bad-many, bad-interval, bad-ids, bad-not}
 use borrow.Author.Needs.{needs}
 use Rattle.idmap_write.proofs.refusal.refusal.Statement.{statement}
 use Rattle.idmap_write.proofs.refusal.refusal.Tie as tie

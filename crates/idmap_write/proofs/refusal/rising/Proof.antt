@@ -5,7 +5,7 @@ use mathlib.Core.Path.{_≡_, sym, _∙_}
 use native.Mathlib.Omega.{arith}
 use lib.ListN.{length}
 use borrow.Author.Tests.{not-true, not-false}
-use Rattle.idmap_write.specs.refusal.Ways.{RiseAt, rise-first, rise-next, rise-stop, rise-last}
+use Rattle.idmap_write.specs.refusal.RefusalLaws.{RiseAt, rise-first, rise-next, rise-stop, rise-last}
 use borrow.Author.Needs.{needs}
 use Rattle.idmap_write.proofs.refusal.rising.Statement.{statement}
 use Rattle.idmap_write.proofs.refusal.rising.Tie as tie

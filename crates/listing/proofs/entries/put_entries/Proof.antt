@@ -63,7 +63,7 @@ put-entry-requires c κs =
     )
 
 add-i : tie.Need-add-i Inv-loop μ-loop
-add-i c = omega (arith, entry (c .before .before .before .before .before .before) .few)
+add-i c = omega (arith, entry (c .before .before .before .before .before .before) .at-most)
 
 loop-again : tie.Need-loop-again Inv-loop μ-loop
 loop-again c =

@@ -16,15 +16,15 @@ module _ (pb : tie.After-put-bytes) where
   abbrev s : tie.Start
   s = ssk .before .before
 
-  few : s .args .count ≤ 1024
-  few =
+  at-most : s .args .count ≤ 1024
+  at-most =
       list-room _ _ _ _ _ _ (λ k. omega (arith, ssk .shared-slice-known .given k)) (s .pre .1 .0) (s .pre .0 .0) (s .pre .1 .1) .1
 
 put-entries-requires : tie.Need-put-entries-requires
 put-entries-requires c κs =
     let pb = c .before .before .before in
     let p = s pb .pre in (
-      (p .0 .0, omega (arith, pb .put-bytes .ensures .ends, pb .put-bytes .kept .0, few pb, p .0 .1)),
+      (p .0 .0, omega (arith, pb .put-bytes .ensures .ends, pb .put-bytes .kept .0, at-most pb, p .0 .1)),
       (p .1 .0, m _ _ _ _ _ _ (λ k. omega (arith, ssk pb .shared-slice-known .given k)) (p .1 .0) (p .0 .0) (p .1 .1)),
     )
 
@@ -46,7 +46,7 @@ put-number-requires c κs =
     let w = pb .put-bytes in
     let x = pe .put-entries in
     let y = ps .put-segment in
-    omega (arith, w .ensures .ends, w .kept .0, few pb, x .ensures .1, x .kept .0, y .ensures .1, y .kept .0, s pb .pre .0 .1)
+    omega (arith, w .ensures .ends, w .kept .0, at-most pb, x .ensures .1, x .kept .0, y .ensures .1, y .kept .0, s pb .pre .0 .1)
 
 put-number-requires-2 : tie.Need-put-number-requires-2
 put-number-requires-2 c κs =
@@ -62,7 +62,7 @@ put-number-requires-2 c κs =
       arith,
       w .ensures .ends,
       w .kept .0,
-      few pb,
+      at-most pb,
       x .ensures .1,
       x .kept .0,
       y .ensures .1,

@@ -8,8 +8,8 @@ use borrow.Author.Needs.{needs}
 use Rattle.lookup.proofs.place.payload_place.Statement.{statement}
 use Rattle.lookup.proofs.place.payload_place.Tie as tie
 
-find-requires : tie.Need-find-requires
-find-requires c κs =
+find-in-requires : tie.Need-find-in-requires
+find-in-requires c κs =
     let ow = c .before .before .before .before .before in
     let m = opened-at _ _ _ _ _ _ (sym (ow .open-with .ensures .0) ∙ c .before .before .found2 .given .1) in
     (omega arith, (ow .open-with .ensures .1 (m .within), m))
@@ -28,5 +28,5 @@ pub payload-place-spec : {M : Type 1} → statement M
 payload-place-spec =
     tie.close
     (tie.spec
-    (search needs) (search needs) (search needs) (search needs) (search needs) (search needs) find-requires
+    (search needs) (search needs) (search needs) (search needs) (search needs) (search needs) find-in-requires
     returns returns-2 (λ c. search needs))

@@ -12,14 +12,14 @@ use Rattle.lookup.proofs.vector.value_place.Tie as tie
 returns : tie.Need-returns
 returns c =
     let p2 = c .before .before in
-    value-past _ _ _ _ _ _ _ _ _ (sym (p2 .before .before .locate .ensures) ∙ p2 .place2 .given .1) _ (omega arith)
+    value-past _ _ _ _ _ _ _ _ _ (sym (p2 .before .before .find .ensures) ∙ p2 .place2 .given .1) _ (omega arith)
 
 -- Where the vector is found and has the component: the component lies in the file.
 module _ (w : tie.After-width-of) where
   abbrev p2 : tie.After-place2
   p2 = w .before .before .before
 
-  abbrev l : tie.After-locate
+  abbrev l : tie.After-find
   l = p2 .before .before
 
   abbrev s : tie.Start
@@ -35,7 +35,7 @@ module _ (w : tie.After-width-of) where
       × (p2 .place2 .given .0 .0 + (p2 .place2 .given .0 .1 .1 .0 + (row + index) * w .width-of .result)
       + w .width-of .result ≤ length (s .args .file .now)))
   inside =
-      value-inside _ _ _ _ _ _ _ _ _ (sym (l .locate .ensures) ∙ p2 .place2 .given .1) (s .args .component) (omega arith) _
+      value-inside _ _ _ _ _ _ _ _ _ (sym (l .find .ensures) ∙ p2 .place2 .given .1) (s .args .component) (omega arith) _
       (w .width-of .ensures)
 
 mul-t19 : tie.Need-mul-t19
@@ -48,14 +48,14 @@ add-t21 : tie.Need-add-t21
 add-t21 c = omega (arith, inside c, l c .before .shared-slice-known .given 0)
 
 returns-2 : tie.Need-returns-2
-returns-2 c = value-refused _ _ _ _ (sym (c .before .before .before .locate .ensures) ∙ c .before .place .given .1)
+returns-2 c = value-refused _ _ _ _ (sym (c .before .before .before .find .ensures) ∙ c .before .place .given .1)
 
 returns-3 : tie.Need-returns-3
-returns-3 c = value-nowhere _ _ _ (sym (c .before .before .locate .ensures) ∙ c .enum-told .given .1)
+returns-3 c = value-nowhere _ _ _ (sym (c .before .before .find .ensures) ∙ c .enum-told .given .1)
 
 returns-4 : tie.Need-returns-4
 returns-4 c =
-    value-here _ _ _ _ _ _ _ _ _ (sym (l c .locate .ensures) ∙ p2 c .place2 .given .1) _ (omega arith) _ (c .width-of .ensures)
+    value-here _ _ _ _ _ _ _ _ _ (sym (l c .find .ensures) ∙ p2 c .place2 .given .1) _ (omega arith) _ (c .width-of .ensures)
 
 pub value-place-spec : {M : Type 1} → statement M
 value-place-spec =

@@ -13,7 +13,7 @@ add-end c =
     let l = c .before .before .before in
     omega (
       arith,
-      part-room _ _ _ _ _ _ _ _ _ (sym (l .locate .ensures) ∙ c .before .place2 .given .1),
+      part-room _ _ _ _ _ _ _ _ _ (sym (l .find .ensures) ∙ c .before .place2 .given .1),
       l .before .before .shared-slice-known .given 0,
     )
 
@@ -22,29 +22,29 @@ part-read-vector-end c =
     let l = c .before .before .before in
     omega (
       arith,
-      part-room _ _ _ _ _ _ _ _ _ (sym (l .locate .ensures) ∙ c .before .place2 .given .1),
+      part-room _ _ _ _ _ _ _ _ _ (sym (l .find .ensures) ∙ c .before .place2 .given .1),
       l .before .before .shared-slice-known .given 0,
     )
 
 read-vector-requires : tie.Need-read-vector-requires
 read-vector-requires c κs =
     let p2 = c .before .before .before in
-    part-bounds _ _ _ _ _ _ _ _ _ (sym (p2 .before .before .locate .ensures) ∙ p2 .place2 .given .1)
+    part-bounds _ _ _ _ _ _ _ _ _ (sym (p2 .before .before .find .ensures) ∙ p2 .place2 .given .1)
 
 returns : tie.Need-returns
-returns c = vector-refused _ _ _ _ (sym (c .before .before .before .locate .ensures) ∙ c .before .place .given .1)
+returns c = vector-refused _ _ _ _ (sym (c .before .before .before .find .ensures) ∙ c .before .place .given .1)
 
 returns-2 : tie.Need-returns-2
-returns-2 c = vector-nowhere _ _ _ (sym (c .before .before .locate .ensures) ∙ c .enum-told .given .1)
+returns-2 c = vector-nowhere _ _ _ (sym (c .before .before .find .ensures) ∙ c .enum-told .given .1)
 
 returns-3 : tie.Need-returns-3
 returns-3 c =
     let rv = c .before .before .before .before .before in
     let p2 = rv .before .before .before .before in
     let l = p2 .before .before in
-    let p = vector-part _ _ _ _ _ _ _ _ _ (sym (l .locate .ensures) ∙ p2 .place2 .given .1) (l .before .before .before .args .buf .now) in
-    let g = get-short _ _ _ (part-sound _ _ _ _ _ _ _ _ _ (sym (l .locate .ensures) ∙ p2 .place2 .given .1)) _ _ _
-    _ _ (part-found _ _ _ _ _ _ _ _ _ (sym (l .locate .ensures) ∙ p2 .place2 .given .1)) _ _
+    let p = vector-part _ _ _ _ _ _ _ _ _ (sym (l .find .ensures) ∙ p2 .place2 .given .1) (l .before .before .before .args .buf .now) in
+    let g = get-short _ _ _ (part-sound _ _ _ _ _ _ _ _ _ (sym (l .find .ensures) ∙ p2 .place2 .given .1)) _ _ _
+    _ _ (part-found _ _ _ _ _ _ _ _ _ (sym (l .find .ensures) ∙ p2 .place2 .given .1)) _ _
     (sym (rv .read-vector .ensures .0) ∙ c .before .w .given .1) (rv .read-vector .ensures .1) in
     (g .0 ∙ p .0, g .1 ∙ p .1)
 
@@ -53,9 +53,9 @@ returns-4 c =
     let rv = c .before .before .before .before .before in
     let p2 = rv .before .before .before .before in
     let l = p2 .before .before in
-    let p = vector-part _ _ _ _ _ _ _ _ _ (sym (l .locate .ensures) ∙ p2 .place2 .given .1) (l .before .before .before .args .buf .now) in
-    let g = get-read _ _ _ (part-sound _ _ _ _ _ _ _ _ _ (sym (l .locate .ensures) ∙ p2 .place2 .given .1)) _ _ _ _
-    _ (part-found _ _ _ _ _ _ _ _ _ (sym (l .locate .ensures) ∙ p2 .place2 .given .1)) _ _
+    let p = vector-part _ _ _ _ _ _ _ _ _ (sym (l .find .ensures) ∙ p2 .place2 .given .1) (l .before .before .before .args .buf .now) in
+    let g = get-read _ _ _ (part-sound _ _ _ _ _ _ _ _ _ (sym (l .find .ensures) ∙ p2 .place2 .given .1)) _ _ _ _
+    _ (part-found _ _ _ _ _ _ _ _ _ (sym (l .find .ensures) ∙ p2 .place2 .given .1)) _ _
     (sym (rv .read-vector .ensures .0) ∙ c .before .w2 .given .1) (rv .read-vector .ensures .1) in
     (g .0 ∙ p .0, g .1 ∙ p .1)
 

@@ -7,7 +7,7 @@ use lib.Seq.{length-take-le}
 use borrow.Author.Tests.{not-true, not-false, ne-eqb}
 use Rattle.segment.specs.Header.{flagsHeld}
 use Rattle.octets.specs.numbers.Numbers.{leastNext}
-use Rattle.segment.specs.Ways.{head-fails, head-holds}
+use Rattle.segment.specs.HeaderLaws.{head-fails, head-holds}
 use borrow.Author.Needs.{needs}
 use Rattle.segment.proofs.header.header_sound.Statement.{statement}
 use Rattle.segment.proofs.header.header_sound.Tie as tie

@@ -12,10 +12,10 @@ use Rattle.vec_read.proofs.check.check_blocks.Statement.{statement}
 use Rattle.vec_read.proofs.check.check_blocks.Tie as tie
 
 abbrev Inv-loop : tie.InvT-loop
-Inv-loop s blocks start own₀ i₀ at₀ own i at = (BlocksAt s blocks start i at) × ((LinesAt s blocks i) × (length own ≡ length own₀))
+Inv-loop s blocks start scratch₀ i₀ at₀ scratch i at = (BlocksAt s blocks start i at) × ((LinesAt s blocks i) × (length scratch ≡ length scratch₀))
 
 abbrev μ-loop : tie.MeasureT-loop
-μ-loop s blocks start own₀ i₀ at₀ own i at = blocks - i
+μ-loop s blocks start scratch₀ i₀ at₀ scratch i at = blocks - i
 
 loop-holds : tie.Need-loop-holds Inv-loop μ-loop
 loop-holds c = (blocks-first _ _ _ (omega arith), (lines-first _ _, refl))

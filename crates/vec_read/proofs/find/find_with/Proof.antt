@@ -13,10 +13,10 @@ use Rattle.vec_read.proofs.find.find_with.Statement.{statement}
 use Rattle.vec_read.proofs.find.find_with.Tie as tie
 
 abbrev Inv-loop : tie.InvT-loop
-Inv-loop s id own₀ j₀ own j = (SearchAt s id j) × (length own ≡ length own₀)
+Inv-loop s id scratch₀ j₀ scratch j = (SearchAt s id j) × (length scratch ≡ length scratch₀)
 
 abbrev μ-loop : tie.MeasureT-loop
-μ-loop s id own₀ j₀ own j = j
+μ-loop s id scratch₀ j₀ scratch j = j
 
 abbrev call : tie.In-loop Inv-loop μ-loop → tie.Start Inv-loop μ-loop
 call b = b .before .before .before .before .before
@@ -24,7 +24,7 @@ call b = b .before .before .before .before .before
 -- the directory's lines are there
 lines : (b : tie.In-loop Inv-loop μ-loop) → 4 + 12 * b .before .loop .j ≤ length (call b .args .s .now)
 lines b =
-    let few = b .before .loop .inv .0 .few in
+    let at-most = b .before .loop .inv .0 .at-most in
     omega (arith, sound _ (call b .pre .0) .room)
 
 -- where the line that is looked at is read: its numbers

@@ -53,10 +53,10 @@ mul-to : tie.Need-mul-to Inv-loop μ-loop
 mul-to c = omega (arith, room c .to, room c .all)
 
 sub-copy : tie.Need-sub-copy Inv-loop μ-loop
-sub-copy c = let long = c .before .loop .inv .long in omega (arith, room c .to)
+sub-copy c = let same-length = c .before .loop .inv .same-length in omega (arith, room c .to)
 
 part-copy-start : tie.Need-part-copy-start Inv-loop μ-loop
-part-copy-start c = let long = c .before .loop .inv .long in omega (arith, room c .to)
+part-copy-start c = let same-length = c .before .loop .inv .same-length in omega (arith, room c .to)
 
 sub-copy-2 : tie.Need-sub-copy-2 Inv-loop μ-loop
 sub-copy-2 c = omega (arith, room (c .before) .from)
@@ -72,7 +72,7 @@ copy-requires c κs =
     let l′ = c .before .before .before in
     let buf = l′ .loop .buf in
     let d = l′ .loop .d in
-    let long = l′ .loop .inv .long in
+    let same-length = l′ .loop .inv .same-length in
     let r = room (c .before .before) in
     let a = l′ .before .before .before .before .before .args in
     let w = l′ .before .before .width-of .result in
@@ -91,7 +91,7 @@ loop-again c =
     (omega (arith, ap (λ w. s .args .dim * w) e)) (rw e at (c .before .before .copy .ensures)))
 
 same-length : tie.Need-same-length Inv-loop μ-loop
-same-length c = c .before .loop .inv .long
+same-length c = c .before .loop .inv .same-length
 
 returns-2 : tie.Need-returns-2 Inv-loop μ-loop
 returns-2 c =

@@ -1,4 +1,4 @@
--- `commit::finish` meets its contract: its tests in order, then what is written.
+-- `commit::commit` meets its contract: its tests in order, then what is written.
 -- Assumes nothing.
 use Prim.Native.Nat.{ℕ, _+_, _-_, _*_, _^_, _≤_, _<_}
 use mathlib.Core.Path.{_≡_, refl, sym, ap, _∙_}
@@ -15,11 +15,11 @@ use Rattle.manifest.specs.Opening.{opened}
 use Rattle.batch.specs.Form.{bodiesOf}
 use Rattle.batch.specs.Lines.{bodies-count, count-is, held-bounds}
 use Rattle.appending.specs.Append.{newCount, newEnd, manifestId}
-use Rattle.append.specs.commit.Late.{nextOf, late-entries, late-ids, late-limit, late-room, late-done, count-number, id-number, end-number, payload-round}
-use Rattle.append.specs.commit.Finish.{bodies-most, written-inside, written-all}
+use Rattle.append.specs.commit.Commit.{nextOf, commit-entries, commit-ids, commit-limit, commit-room, commit-done, count-number, id-number, end-number, payload-round}
+use Rattle.append.specs.commit.Written.{bodies-most, written-inside, written-all}
 use borrow.Author.Needs.{needs}
-use Rattle.append.proofs.commit.finish.Statement.{statement}
-use Rattle.append.proofs.commit.finish.Tie as tie
+use Rattle.append.proofs.commit.commit.Statement.{statement}
+use Rattle.append.proofs.commit.commit.Tie as tie
 
 -- Where the batch's count `m` is read: the numbers of the new manifest. `s` is the call.
 module _ (u : tie.After-u32-at) where
@@ -88,17 +88,17 @@ module _ (p : tie.After-put-bodies) where
   abbrev all : ℕ
   all = s w .args .kept + m w
 
-  few : all ≤ 1024
-  few = omega (arith, n .before .before .before .if1 .left)
+  at-most : all ≤ 1024
+  at-most = omega (arith, n .before .before .before .if1 .left)
 
   offsets-long : all ≤ length (p .put-bodies .last .1 .1 .1 .1 .1 .0)
-  offsets-long = omega (arith, few, p .put-bodies .kept .1 .1 .1 .1 .1 .0, s w .pre .0 .1 .0)
+  offsets-long = omega (arith, at-most, p .put-bodies .kept .1 .1 .1 .1 .1 .0, s w .pre .0 .1 .0)
 
   offsets-count : length (take all (p .put-bodies .last .1 .1 .1 .1 .1 .0)) ≡ all
   offsets-count = length-take-le all (p .put-bodies .last .1 .1 .1 .1 .1 .0) offsets-long
 
   states-count : length (take all (s w .args .states .now)) ≡ all
-  states-count = length-take-le all (s w .args .states .now) (omega (arith, few, s w .pre .0 .1 .1))
+  states-count = length-take-le all (s w .args .states .now) (omega (arith, at-most, s w .pre .0 .1 .1))
 
   ids-fit : n .next-id .result + m w < 2 ^ 64
   ids-fit = omega (arith, n .next-id .ensures, id-fits (n .before))
@@ -113,10 +113,10 @@ add-count : tie.Need-add-count
 add-count c =
     let q = held-bounds (s c .args .batch .now) (s c .pre .0 .0) in
     let m-is = count-is (s c .args .batch .now) (m c) (c .u32-at .ensures) in
-    omega (arith, s c .pre .1 .few)
+    omega (arith, s c .pre .1 .at-most)
 
 returns : tie.Need-returns
-returns c = late-entries _ _ _ _ _ (omega (arith, count-new (c .before)))
+returns c = commit-entries _ _ _ _ _ (omega (arith, count-new (c .before)))
 
 ids-over-requires : tie.Need-ids-over-requires
 ids-over-requires c κs =
@@ -128,7 +128,7 @@ ids-over-requires c κs =
 returns-2 : tie.Need-returns-2
 returns-2 c =
     let u = c .before .before .before in
-    late-ids _ _ _ _ _ (omega (arith, count-new u)) (ap (ltb (2 ^ 64 - 1)) (sym (id-new u)) ∙ sym (c .before .ids-over .ensures) ∙ c .if2 .taken)
+    commit-ids _ _ _ _ _ (omega (arith, count-new u)) (ap (ltb (2 ^ 64 - 1)) (sym (id-new u)) ∙ sym (c .before .ids-over .ensures) ∙ c .if2 .taken)
 
 bodies-end-requires : tie.Need-bodies-end-requires
 bodies-end-requires c κs =
@@ -155,13 +155,13 @@ add-end-2 c =
 returns-3 : tie.Need-returns-3
 returns-3 c =
     let e2 = c .before .before .before .before .before in
-    late-limit _ _ _ _ _ (omega (arith, count-new (u e2))) (id-enough e2) (omega (arith, end-new (c .before)))
+    commit-limit _ _ _ _ _ (omega (arith, count-new (u e2))) (id-enough e2) (omega (arith, end-new (c .before)))
 
 returns-4 : tie.Need-returns-4
 returns-4 c =
     let r = c .before .before in
     let e2 = r .before .before .before .before in
-    late-room _ _ _ _ _ (omega (arith, count-new (u e2))) (id-enough e2) (omega (arith, end-new r)) (omega (arith, end-new r))
+    commit-room _ _ _ _ _ (omega (arith, count-new (u e2))) (id-enough e2) (omega (arith, end-new r)) (omega (arith, end-new r))
 
 add-id : tie.Need-add-id
 add-id c =
@@ -192,14 +192,14 @@ put-manifest-requires c κs =
     let pr = payload-round (all p) _ _ (r p .before .round-up .ensures) (r p .round-up2 .ensures) in
     let pl : round64 (payloadLength (length (take (all p) (p .put-bodies .last .1 .1 .1 .1 .1 .0)))) ≡ round64 (payloadLength (all p)) =
     ap (λ (n : ℕ). round64 (payloadLength n)) os-count in (
-      (omega (arith, os-count, few p), omega (arith, os-count, states-count p)),
+      (omega (arith, os-count, at-most p), omega (arith, os-count, states-count p)),
       (
         (omega (arith, pl, pr, p .put-bodies .kept .0), omega arith),
         written-inside (s .args .buf .now) (s .args .offsets .now) (s .args .batch .now) (s .args .start)
             (s .args .kept) (s .args .first) (s .args .last)
             (s .pre .1) (s .pre .0 .0) (s .args .timestamp) (s .fits .timestamp .fits) (n p .next-id .result) (m (w p)) (n p .next-id .ensures)
             (count-is (s .args .batch .now) (m (w p)) (w p .u32-at .ensures)) (ids-fit p) (b (r p) .bodies-end .result) (b (r p) .bodies-end .ensures)
-            (omega arith) (omega arith) (omega (arith, few p, s .pre .0 .1 .0))
+            (omega arith) (omega arith) (omega (arith, at-most p, s .pre .0 .1 .0))
             (p .put-bodies .last .0) (p .put-bodies .last .1 .1 .1 .1 .1 .0) (p .put-bodies .ensures .0) (p .put-bodies .ensures .1),
       ),
     )
@@ -210,17 +210,17 @@ returns-5 c =
     let p = sk3 .before .before in
     let s = s (w p) in
     let e = end-new (r p) in
-    late-done _ _ _ _ _ (omega (arith, few p, count-new (w p))) (id-enough (n p .before)) (omega (arith, e)) (omega (arith, e)) _ _ _ _ e
+    commit-done _ _ _ _ _ (omega (arith, at-most p, count-new (w p))) (id-enough (n p .before)) (omega (arith, e)) (omega (arith, e)) _ _ _ _ e
     (ap (λ (k : ℕ). k + m (w p)) (n p .next-id .ensures) ∙ id-new (w p)) (count-new (w p))
     (written-all (s .args .buf .now) (s .args .offsets .now) (s .args .batch .now) (s .args .start) (s .args .kept) (s .args .first) (s .args .last)
     (s .pre .1) (s .pre .0 .0) (s .args .timestamp) (s .fits .timestamp .fits) (n p .next-id .result) (m (w p)) (n p .next-id .ensures)
     (count-is (s .args .batch .now) (m (w p)) (w p .u32-at .ensures)) (ids-fit p) (b (r p) .bodies-end .result) (b (r p) .bodies-end .ensures)
-    (omega arith) (omega arith) (omega (arith, few p, s .pre .0 .1 .0))
+    (omega arith) (omega arith) (omega (arith, at-most p, s .pre .0 .1 .0))
     (p .put-bodies .last .0) (p .put-bodies .last .1 .1 .1 .1 .1 .0) (p .put-bodies .ensures .0) (p .put-bodies .ensures .1)
     _ _ _ refl (λ k. omega (arith, sk3 .slice-known3 .given k)) (c .before .before .put-manifest .ensures))
 
-pub finish-spec : {M : Type 1} → statement M
-finish-spec =
+pub commit-spec : {M : Type 1} → statement M
+commit-spec =
     tie.close
     (tie.spec
     u32-at-requires (search needs) add-count returns ids-over-requires returns-2

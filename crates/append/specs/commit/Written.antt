@@ -29,7 +29,7 @@ use Rattle.batch.specs.Form.{Body, lineSize, lineLength, lineHeld, linesHeld, b
 use Rattle.batch.specs.Lines.{bodies-count, begins-inside, held-bounds}
 use Rattle.appending.specs.Append.{startOf, nextId, bodyLinks, bodyBytes, bodiesEnd, manifestAt, manifestId, newCount, newLinks}
 use Rattle.appending.specs.Written.{bodies-held, bodies-length}
-use Rattle.append.specs.commit.Late.{nextOf, bytesWith, count-number, id-number, at-number}
+use Rattle.append.specs.commit.Commit.{nextOf, bytesWith, count-number, id-number, at-number}
 use Rattle.append.specs.commit.Base.{Base, new-inside, new-payload, buffer-front, all-written}
 
 -- ---- the bodies take little more than the batch

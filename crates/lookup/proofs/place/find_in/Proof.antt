@@ -1,4 +1,4 @@
--- `locate_payload::find` meets its contract, by where the search through the directory stands.
+-- `place::find_in` meets its contract, by where the search through the directory stands.
 -- Assumes nothing.
 use Rattle.opening.specs.Indexed.{EntryAt, entry-at}
 use Prim.Native.Nat.{_-_}
@@ -7,8 +7,8 @@ use native.Mathlib.Omega.{arith}
 use borrow.Author.Tests.{not-true, not-false}
 use Rattle.lookup.specs.place.Find.{FindAt, find-first, find-last, find-other, find-retired, find-torn, find-whole}
 use borrow.Author.Needs.{needs}
-use Rattle.lookup.proofs.place.find.Statement.{statement}
-use Rattle.lookup.proofs.place.find.Tie as tie
+use Rattle.lookup.proofs.place.find_in.Statement.{statement}
+use Rattle.lookup.proofs.place.find_in.Tie as tie
 
 abbrev Inv-loop : tie.InvT-loop
 Inv-loop file offsets manifest count id i₀ i = FindAt file id count i
@@ -40,7 +40,7 @@ u64-at-requires c κs =
     omega (arith, entry b, s b .pre .1 .1 .within)
 
 add-i : tie.Need-add-i Inv-loop μ-loop
-add-i c = omega (arith, entry (c .before .before .before) .few)
+add-i c = omega (arith, entry (c .before .before .before) .at-most)
 
 loop-again : tie.Need-loop-again Inv-loop μ-loop
 loop-again c =
@@ -73,7 +73,7 @@ shared-slice-read-if2 c =
     omega (arith, entry b, s b .pre .1 .1 .within)
 
 add-i-2 : tie.Need-add-i-2 Inv-loop μ-loop
-add-i-2 c = omega (arith, entry (c .before .before .before .before .before) .few)
+add-i-2 c = omega (arith, entry (c .before .before .before .before .before) .at-most)
 
 loop-again-2 : tie.Need-loop-again-2 Inv-loop μ-loop
 loop-again-2 c =
@@ -119,8 +119,8 @@ returns-2 c =
 returns-3 : tie.Need-returns-3 Inv-loop μ-loop
 returns-3 c = find-last _ _ _ _ (c .before .before .before .before .pre .1 .1) _ (c .before .loop .inv) (omega arith)
 
-pub find-spec : {M : Type 1} → statement M
-find-spec =
+pub find-in-spec : {M : Type 1} → statement M
+find-in-spec =
     tie.close
     (tie.spec
     Inv-loop μ-loop loop-holds (λ c. omega (arith, entry c)) (λ c. omega (arith, entry (c .before))) add-u64-at

@@ -11,7 +11,7 @@ use lib.ListN.{length, take, getD}
 use Rattle.manifest.specs.declared.Opened.the-variants.{Refused, At, NoManifest}
 use Rattle.appending.specs.Append.{appendBuffer, Appends, appendedAnswer, startOf, manifestAt, newEnd, Holds}
 use Rattle.appending.specs.Buffer.{Appended, appended}
-use Rattle.append.specs.Ways.{way-room}
+use Rattle.append.specs.AppendLaws.{way-room}
 use Rattle.claim_uses.specs.declared.cut.CutRead.the-variants.{NotAppended, Read, NotCut}
 use native.Mathlib.Omega.{arith}
 use Rattle.manifest.specs.Opening.{opened, openedCase}

@@ -19,22 +19,22 @@ use Rattle.append.specs.retire.Held.{member-snoc}
 -- ---- the search, as a view
 
 -- a number stands in a list first at an index
-pub data Stands (x : ℕ) : List ℕ → ℕ → Type 0 where
-  here : {n : ℕ} {ns : List ℕ} → n ≡ x → Stands x (n ∷ ns) zero
-  there : {n : ℕ} {ns : List ℕ} {i : ℕ} → (n ≡ x → ⊥) → Stands x ns i → Stands x (n ∷ ns) (suc i)
+pub data MemberAt (x : ℕ) : List ℕ → ℕ → Type 0 where
+  here : {n : ℕ} {ns : List ℕ} → n ≡ x → MemberAt x (n ∷ ns) zero
+  there : {n : ℕ} {ns : List ℕ} {i : ℕ} → (n ≡ x → ⊥) → MemberAt x ns i → MemberAt x (n ∷ ns) (suc i)
 
 -- it stands nowhere
 pub data Lacks (x : ℕ) : List ℕ → Type 0 where
   done : Lacks x []
   more : {n : ℕ} {ns : List ℕ} → (n ≡ x → ⊥) → Lacks x ns → Lacks x (n ∷ ns)
 
-pub stands : (x : ℕ) (ns : List ℕ) (i : ℕ) → indexOf x ns ≡ some i → Stands x ns i
+pub stands : (x : ℕ) (ns : List ℕ) (i : ℕ) → indexOf x ns ≡ some i → MemberAt x ns i
 unfolding indexOf
 stands x [] i e = absurd (let z : _≡_ {A = ℕ} 0 1 = cc in omega arith)
 stands x (n ∷ ns) i e = pick (eqb n x) refl (indexOf x ns) (stands x ns) i e
   where
-    pick : (t : Bool) → eqb n x ≡ t → (o : Option ℕ) → ((j : ℕ) → o ≡ some j → Stands x ns j) → (i : ℕ)
-        → cond t (some 0) (elim o [ none ↦ none | some j ↦ some (suc j) ]) ≡ some i → Stands x (n ∷ ns) i
+    pick : (t : Bool) → eqb n x ≡ t → (o : Option ℕ) → ((j : ℕ) → o ≡ some j → MemberAt x ns j) → (i : ℕ)
+        → cond t (some 0) (elim o [ none ↦ none | some j ↦ some (suc j) ]) ≡ some i → MemberAt x (n ∷ ns) i
     pick true p o ih i q = let z : 0 ≡ i = cc in rw (← z) (here (eqb-true n x p))
     pick false p none ih i q = absurd (let z : _≡_ {A = ℕ} 0 1 = cc in omega arith)
     pick false p (some j) ih i q = let z : suc j ≡ i = cc in rw (← z) (there (eqb-false n x p) (ih j refl))
@@ -84,7 +84,7 @@ getD-tail [] i = refl
 getD-tail (x ∷ l) i = refl
 
 -- it may be retired exactly if the state there is 0 and the type there is not 0x05
-pub retirable-stands : {x : ℕ} {ns : List ℕ} {i : ℕ} → Stands x ns i → (least : ℕ) → Rises least ns → (ks ss : List ℕ)
+pub retirable-stands : {x : ℕ} {ns : List ℕ} {i : ℕ} → MemberAt x ns i → (least : ℕ) → Rises least ns → (ks ss : List ℕ)
     → retirableBy ns ks ss x ≡ eqb (getD ss i 0) 0 && not (eqb (getD ks i 0) manifestKind)
 unfolding retirableBy Rises
 retirable-stands {x} (here {n = n} {ns = ns} e) least r ks ss =
@@ -96,7 +96,7 @@ retirable-stands {x} (there {n = n} {i = i} d s) least r ks ss =
     ∙ ap₂ (λ (a b : ℕ). eqb a 0 && not (eqb b manifestKind)) (getD-tail ss i) (getD-tail ks i))
 
 -- one id more is retired by setting the state there
-pub retired-stands : {x : ℕ} {ns : List ℕ} {i : ℕ} → Stands x ns i → (least : ℕ) → Rises least ns → (ss xs : List ℕ)
+pub retired-stands : {x : ℕ} {ns : List ℕ} {i : ℕ} → MemberAt x ns i → (least : ℕ) → Rises least ns → (ss xs : List ℕ)
     → retiredBy ns ss (xs ++ x ∷ []) ≡ set (retiredBy ns ss xs) i 1
 unfolding retiredBy Rises
 retired-stands {x} (here {n = n} {ns = ns} e) least r ss xs =
@@ -106,7 +106,7 @@ retired-stands {x} (here {n = n} {ns = ns} e) least r ss xs =
 retired-stands {x} (there {n = n} {i = i} d s) least r ss xs = rw (member-other n xs x d, retired-stands s (n + 1) (r .1) (drop 1 ss) xs)
 
 -- the state there after some ids: 1 if it is one of them, else the old one
-pub state-stands : {x : ℕ} {ns : List ℕ} {i : ℕ} → Stands x ns i → (ss xs : List ℕ) → getD (retiredBy ns ss xs) i 0 ≡ cond (member x xs) 1 (getD ss i 0)
+pub state-stands : {x : ℕ} {ns : List ℕ} {i : ℕ} → MemberAt x ns i → (ss xs : List ℕ) → getD (retiredBy ns ss xs) i 0 ≡ cond (member x xs) 1 (getD ss i 0)
 unfolding retiredBy
 state-stands (here e) ss xs = rw e
 state-stands {x} (there {i = i} d s) ss xs = state-stands s (drop 1 ss) xs ∙ ap (cond (member x xs) 1) (getD-tail ss i)

@@ -1,4 +1,4 @@
--- `opening::search` meets its contract, by where the search from the end stands.
+-- `opening::find_from_end` meets its contract, by where the search from the end stands.
 -- Assumes nothing.
 use Prim.Native.Nat.{_-_, _/_}
 use mathlib.Core.Path.{_≡_, sym, ap, _∙_}
@@ -13,8 +13,8 @@ use Rattle.manifest.specs.Payload.{confirmed}
 use Rattle.manifest.specs.Opening.{opened}
 use Rattle.opening.specs.Opened.{bounded, found-none, found-at}
 use borrow.Author.Needs.{needs}
-use Rattle.opening.proofs.search.Statement.{statement}
-use Rattle.opening.proofs.search.Tie as tie
+use Rattle.opening.proofs.find_from_end.Statement.{statement}
+use Rattle.opening.proofs.find_from_end.Tie as tie
 
 abbrev Inv-loop : tie.InvT-loop
 Inv-loop file offsets n k₀ p₀ tried₀ k p tried = DownAt confirmed file offsets n p k × (tried ≡ length file / 64 - p / 64)
@@ -37,14 +37,14 @@ loop-again c =
 
 mul-if2 : tie.Need-mul-if2 Inv-loop μ-loop
 mul-if2 c =
-    let a = c .before .before .loop .inv .0 .few in
+    let a = c .before .before .loop .inv .0 .at-most in
     let b = stored-few _ _ _ (c .before .before .loop .inv .0 .stored) .1 in
     omega arith
 
 shared-slice-read-if2 : tie.Need-shared-slice-read-if2 Inv-loop μ-loop
 shared-slice-read-if2 c =
     let l = c .before .before .before in
-    let a = l .loop .inv .0 .few in
+    let a = l .loop .inv .0 .at-most in
     let b = stored-few _ _ _ (l .loop .inv .0 .stored) .1 in
     omega arith
 
@@ -60,7 +60,7 @@ candidate-requires c κs =
     let l = c .before .before .before .before in
     let s = l .before .before .before in
     let a = l .loop .inv .0 .search .aligned in
-    let few = l .loop .inv .0 .few in
+    let at-most = l .loop .inv .0 .at-most in
     ((s .pre .0, (omega arith, s .pre .1 .0)), down-link _ _ _ _ _ _ (l .loop .inv .0) (omega arith) (c .if2 .left))
 
 add-u64-at : tie.Need-add-u64-at Inv-loop μ-loop
@@ -133,8 +133,8 @@ returns-2 : tie.Need-returns-2 Inv-loop μ-loop
 unfolding opened
 returns-2 c = found-none _ _ (down-none _ _ _ _ _ _ (c .before .loop .inv .0) (omega arith)) (omega arith)
 
-pub search-spec : {M : Type 1} → statement M
-search-spec =
+pub find-from-end-spec : {M : Type 1} → statement M
+find-from-end-spec =
     tie.close
     (tie.spec
     Inv-loop μ-loop (search needs) loop-holds (search needs) sub-p (search needs) loop-again (search needs)

@@ -40,14 +40,14 @@ module _ (old new₁ new₂ first second ids : List ℕ) (ts : ℕ) (t : ts < 2 
     abbrev between : List ℕ
     between = take (getD vs₁ 0 0) new₁
 
-    long : length between ≡ getD vs₁ 0 0
-    long = file-length [] old first [] ts vs₁ new₁ t (λ h. refl) a₁
+    length-is : length between ≡ getD vs₁ 0 0
+    length-is = file-length [] old first [] ts vs₁ new₁ t (λ h. refl) a₁
 
     holds : Holds new₁ between
-    holds h = ap (λ (n : ℕ). take n new₁) long
+    holds h = ap (λ (n : ℕ). take n new₁) length-is
 
     again : Appends new₁ (length between) second ids ts (Accepted vs₂) new₂
-    again = subst (λ (n : ℕ). Appends new₁ n second ids ts (Accepted vs₂) new₂) (sym long) a₂
+    again = subst (λ (n : ℕ). Appends new₁ n second ids ts (Accepted vs₂) new₂) (sym length-is) a₂
 
     abbrev calls : List Call
     calls =

@@ -21,7 +21,7 @@ use Rattle.appending.specs.Accepts.{Passed, passed, empty-passes}
 use Rattle.appending.specs.declared.Appended.{Appended}
 use Rattle.appending.specs.declared.Appended.the-variants.{Refused}
 use Rattle.append.specs.commit.Answer.{batchNumber}
-use Rattle.append.specs.commit.Late.{lateChecks, lateAnswer, bytesWith, bufferWith, lateBuffer}
+use Rattle.append.specs.commit.Commit.{commitChecks, commitAnswer, bytesWith, bufferWith, commitBuffer}
 
 module _ (old : List ℕ) (n : ℕ) (batch ids : List ℕ) (ts : ℕ) where
   -- a refusal leaves the buffer
@@ -83,16 +83,16 @@ module _ (old : List ℕ) (n : ℕ) (batch ids : List ℕ) (ts : ℕ) where
               refuses 11 (rw (le-ltb (length old) n room, le-ltb maxFile n limit, empty-passes n (opened (take n old)) from, both .0, both .1, h))
 
           module _ (held : retireHeld (oldLinks (opened (take n old))) (oldStates (opened (take n old))) ids ≡ true) where
-            late : appendAnswer old n batch ids ≡ lateAnswer (length old) (opened (take n old)) (bodiesOf batch)
-            unfolding appendAnswer answerOn appendChecks checked lateAnswer lateChecks
-            late = rw (le-ltb (length old) n room, le-ltb maxFile n limit, empty-passes n (opened (take n old)) from, both .0, both .1, held)
+            committed : appendAnswer old n batch ids ≡ commitAnswer (length old) (opened (take n old)) (bodiesOf batch)
+            unfolding appendAnswer answerOn appendChecks checked commitAnswer commitChecks
+            committed = rw (le-ltb (length old) n room, le-ltb maxFile n limit, empty-passes n (opened (take n old)) from, both .0, both .1, held)
 
             -- an accepted one has room for its entries
-            few : (vs : List ℕ) → lateAnswer (length old) (opened (take n old)) (bodiesOf batch) ≡ Accepted vs → newCount (opened (take n old)) (bodiesOf batch) ≤ maxEntries
-            unfolding lateAnswer lateChecks Passed
-            few vs e =
+            at-most : (vs : List ℕ) → commitAnswer (length old) (opened (take n old)) (bodiesOf batch) ≡ Accepted vs → newCount (opened (take n old)) (bodiesOf batch) ≤ maxEntries
+            unfolding commitAnswer commitChecks Passed
+            at-most vs e =
                 ltb-false maxEntries (newCount (opened (take n old)) (bodiesOf batch))
-                (passed (lateChecks (length old) (opened (take n old)) (bodiesOf batch)) _ vs e .0 .0)
+                (passed (commitChecks (length old) (opened (take n old)) (bodiesOf batch)) _ vs e .0 .0)
 
             same-bytes : (states : List ℕ) → take (newCount (opened (take n old)) (bodiesOf batch)) states ≡ newStates (opened (take n old)) (bodiesOf batch) ids
                 → bytesWith (opened (take n old)) (bodiesOf batch) (take (newCount (opened (take n old)) (bodiesOf batch)) states) ts ≡ newBytes (opened (take n old)) (bodiesOf batch) ids ts
@@ -100,23 +100,23 @@ module _ (old : List ℕ) (n : ℕ) (batch ids : List ℕ) (ts : ℕ) where
             same-bytes states e = ap (λ (ss : List ℕ). bytesWith (opened (take n old)) (bodiesOf batch) ss ts) e
 
             pub way-done : (r : Appended) (exit states : List ℕ) (o : Option (Found Link)) → o ≡ opened (take n old)
-                → appendedAnswer r ≡ lateAnswer (length old) o (bodiesOf batch) → exit ≡ lateBuffer o old (bodiesOf batch) states ts
+                → appendedAnswer r ≡ commitAnswer (length old) o (bodiesOf batch) → exit ≡ commitBuffer o old (bodiesOf batch) states ts
                 → (newCount (opened (take n old)) (bodiesOf batch) ≤ maxEntries → take (newCount (opened (take n old)) (bodiesOf batch)) states ≡ newStates (opened (take n old)) (bodiesOf batch) ids)
                 → Appends old n batch ids ts (appendedAnswer r) exit
-            unfolding lateBuffer appendBuffer bufferWith bufferOn
+            unfolding commitBuffer appendBuffer bufferWith bufferOn
             way-done r exit states o p a x s =
-                let a2 : appendedAnswer r ≡ lateAnswer (length old) (opened (take n old)) (bodiesOf batch) = a ∙ ap (λ (z : Option (Found Link)). lateAnswer (length old) z (bodiesOf batch)) p in
-                let x2 : exit ≡ lateBuffer (opened (take n old)) old (bodiesOf batch) states ts = x ∙ ap (λ (z : Option (Found Link)). lateBuffer z old (bodiesOf batch) states ts) p in
+                let a2 : appendedAnswer r ≡ commitAnswer (length old) (opened (take n old)) (bodiesOf batch) = a ∙ ap (λ (z : Option (Found Link)). commitAnswer (length old) z (bodiesOf batch)) p in
+                let x2 : exit ≡ commitBuffer (opened (take n old)) old (bodiesOf batch) states ts = x ∙ ap (λ (z : Option (Found Link)). commitBuffer z old (bodiesOf batch) states ts) p in
                 record {
-                  answers = a2 ∙ sym late;
+                  answers = a2 ∙ sym committed;
                   leaves =
                       x2
-                      ∙ go (lateAnswer (length old) (opened (take n old)) (bodiesOf batch)) refl
-                      ∙ sym (ap (bufferOn (opened (take n old)) old (bodiesOf batch) ids ts) late);
+                      ∙ go (commitAnswer (length old) (opened (take n old)) (bodiesOf batch)) refl
+                      ∙ sym (ap (bufferOn (opened (take n old)) old (bodiesOf batch) ids ts) committed);
                 }
               where
-                go : (w : Answer) → lateAnswer (length old) (opened (take n old)) (bodiesOf batch) ≡ w
+                go : (w : Answer) → commitAnswer (length old) (opened (take n old)) (bodiesOf batch) ≡ w
                     → bufferWith (opened (take n old)) old (bodiesOf batch) (take (newCount (opened (take n old)) (bodiesOf batch)) states) ts w
                     ≡ bufferOn (opened (take n old)) old (bodiesOf batch) ids ts w
-                go (Accepted vs) e = ap (over old (startOf (opened (take n old)))) (same-bytes states (s (few vs e)))
+                go (Accepted vs) e = ap (over old (startOf (opened (take n old)))) (same-bytes states (s (at-most vs e)))
                 go (Refusal k vs) e = refl

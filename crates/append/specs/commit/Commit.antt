@@ -1,6 +1,6 @@
 -- The rest of an append, behind the tests of the file, the batch and the ids to retire: its tests and what it writes, as definitions, and its ways out.
 -- Assumes nothing.
-use Prim.Native.Nat.{ℕ, _+_, _-_, _*_, _^_, _≤_, _<_}
+use Prim.Native.Nat.{ℕ, _+_, _-_, _^_, _≤_, _<_}
 use mathlib.Core.Path.{_≡_, sym, ap, _∙_}
 use mathlib.Core.Bool.{Bool, true, false}
 use mathlib.Core.Option.{Option}
@@ -30,16 +30,16 @@ nextOf true last = 0
 nextOf false last = last + 1
 
 -- 'entries above 1,024 12; ids 13; new end above the limit 1; above the buffer 9'
-unfoldable pub lateChecks : ℕ → Option (Found Link) → List Body → List Check
-lateChecks room o bs =
+unfoldable pub commitChecks : ℕ → Option (Found Link) → List Body → List Check
+commitChecks room o bs =
     record { bad = ltb maxEntries (newCount o bs); number = 12 }
     ∷ record { bad = ltb (2 ^ 64 - 1) (manifestId o bs); number = 13 }
     ∷ record { bad = ltb maxFile (newEnd o bs); number = 1 }
     ∷ record { bad = ltb room (newEnd o bs); number = 9 }
     ∷ []
 
-unfoldable pub lateAnswer : ℕ → Option (Found Link) → List Body → Answer
-lateAnswer room o bs = checked (lateChecks room o bs) (Accepted (newEnd o bs ∷ manifestId o bs ∷ newCount o bs ∷ []))
+unfoldable pub commitAnswer : ℕ → Option (Found Link) → List Body → Answer
+commitAnswer room o bs = checked (commitChecks room o bs) (Accepted (newEnd o bs ∷ manifestId o bs ∷ newCount o bs ∷ []))
 
 -- what is written, for entries with some states
 unfoldable pub bytesWith : Option (Found Link) → List Body → List ℕ → ℕ → List ℕ
@@ -50,8 +50,8 @@ unfoldable pub bufferWith : Option (Found Link) → List ℕ → List Body → L
 bufferWith o old bs ss ts (Accepted vs) = over old (startOf o) (bytesWith o bs ss ts)
 bufferWith o old bs ss ts (Refusal n vs) = old
 
-unfoldable pub lateBuffer : Option (Found Link) → List ℕ → List Body → List ℕ → ℕ → List ℕ
-lateBuffer o old bs states ts = bufferWith o old bs (take (newCount o bs) states) ts (lateAnswer (length old) o bs)
+unfoldable pub commitBuffer : Option (Found Link) → List ℕ → List Body → List ℕ → ℕ → List ℕ
+commitBuffer o old bs states ts = bufferWith o old bs (take (newCount o bs) states) ts (commitAnswer (length old) o bs)
 
 -- ---- the ways out
 
@@ -86,36 +86,36 @@ module _ (first : Bool) (last : ℕ) where
           lt-leb (2 ^ 64 - 1 - last) m p ∙ sym (le-ltb (2 ^ 64 - 1) (nextOf first last + m) l)
 
 module _ (o : Option (Found Link)) (old : List ℕ) (bs : List Body) (states : List ℕ) (ts : ℕ) where
-  refused : (n : ℕ) → lateAnswer (length old) o bs ≡ Refusal n [] → (appendedAnswer (Refused n) ≡ lateAnswer (length old) o bs) × (old ≡ lateBuffer o old bs states ts)
-  unfolding appendedAnswer lateBuffer bufferWith
+  refused : (n : ℕ) → commitAnswer (length old) o bs ≡ Refusal n [] → (appendedAnswer (Refused n) ≡ commitAnswer (length old) o bs) × (old ≡ commitBuffer o old bs states ts)
+  unfolding appendedAnswer commitBuffer bufferWith
   refused n e = (sym e, sym (ap (bufferWith o old bs (take (newCount o bs) states) ts) e))
 
-  pub late-entries : maxEntries < newCount o bs → (appendedAnswer (Refused 12) ≡ lateAnswer (length old) o bs) × (old ≡ lateBuffer o old bs states ts)
-  unfolding lateAnswer lateChecks checked
-  late-entries h = refused 12 (rw (lt-ltb maxEntries (newCount o bs) h))
+  pub commit-entries : maxEntries < newCount o bs → (appendedAnswer (Refused 12) ≡ commitAnswer (length old) o bs) × (old ≡ commitBuffer o old bs states ts)
+  unfolding commitAnswer commitChecks checked
+  commit-entries h = refused 12 (rw (lt-ltb maxEntries (newCount o bs) h))
 
-  module _ (few : newCount o bs ≤ maxEntries) where
-    pub late-ids : ltb (2 ^ 64 - 1) (manifestId o bs) ≡ true → (appendedAnswer (Refused 13) ≡ lateAnswer (length old) o bs) × (old ≡ lateBuffer o old bs states ts)
-    unfolding lateAnswer lateChecks checked
-    late-ids h = refused 13 (rw (le-ltb maxEntries (newCount o bs) few, h))
+  module _ (at-most : newCount o bs ≤ maxEntries) where
+    pub commit-ids : ltb (2 ^ 64 - 1) (manifestId o bs) ≡ true → (appendedAnswer (Refused 13) ≡ commitAnswer (length old) o bs) × (old ≡ commitBuffer o old bs states ts)
+    unfolding commitAnswer commitChecks checked
+    commit-ids h = refused 13 (rw (le-ltb maxEntries (newCount o bs) at-most, h))
 
     module _ (fit : ltb (2 ^ 64 - 1) (manifestId o bs) ≡ false) where
-      pub late-limit : maxFile < newEnd o bs → (appendedAnswer (Refused 1) ≡ lateAnswer (length old) o bs) × (old ≡ lateBuffer o old bs states ts)
-      unfolding lateAnswer lateChecks checked
-      late-limit h = refused 1 (rw (le-ltb maxEntries (newCount o bs) few, fit, lt-ltb maxFile (newEnd o bs) h))
+      pub commit-limit : maxFile < newEnd o bs → (appendedAnswer (Refused 1) ≡ commitAnswer (length old) o bs) × (old ≡ commitBuffer o old bs states ts)
+      unfolding commitAnswer commitChecks checked
+      commit-limit h = refused 1 (rw (le-ltb maxEntries (newCount o bs) at-most, fit, lt-ltb maxFile (newEnd o bs) h))
 
       module _ (within : newEnd o bs ≤ maxFile) where
-        pub late-room : length old < newEnd o bs → (appendedAnswer (Refused 9) ≡ lateAnswer (length old) o bs) × (old ≡ lateBuffer o old bs states ts)
-        unfolding lateAnswer lateChecks checked
-        late-room h = refused 9 (rw (le-ltb maxEntries (newCount o bs) few, fit, le-ltb maxFile (newEnd o bs) within, lt-ltb (length old) (newEnd o bs) h))
+        pub commit-room : length old < newEnd o bs → (appendedAnswer (Refused 9) ≡ commitAnswer (length old) o bs) × (old ≡ commitBuffer o old bs states ts)
+        unfolding commitAnswer commitChecks checked
+        commit-room h = refused 9 (rw (le-ltb maxEntries (newCount o bs) at-most, fit, le-ltb maxFile (newEnd o bs) within, lt-ltb (length old) (newEnd o bs) h))
 
-        pub late-done : newEnd o bs ≤ length old → (end id count : ℕ) (exit : List ℕ) → end ≡ newEnd o bs → id ≡ manifestId o bs → count ≡ newCount o bs
+        pub commit-done : newEnd o bs ≤ length old → (end id count : ℕ) (exit : List ℕ) → end ≡ newEnd o bs → id ≡ manifestId o bs → count ≡ newCount o bs
             → exit ≡ over old (startOf o) (bytesWith o bs (take (newCount o bs) states) ts)
-            → (appendedAnswer (At end id count) ≡ lateAnswer (length old) o bs) × (exit ≡ lateBuffer o old bs states ts)
-        unfolding appendedAnswer lateAnswer lateChecks checked lateBuffer bufferWith
-        late-done h end id count exit e i c x =
-            let a : lateAnswer (length old) o bs ≡ Accepted (newEnd o bs ∷ manifestId o bs ∷ newCount o bs ∷ []) =
-            rw (le-ltb maxEntries (newCount o bs) few, fit, le-ltb maxFile (newEnd o bs) within, le-ltb (length old) (newEnd o bs) h) in
+            → (appendedAnswer (At end id count) ≡ commitAnswer (length old) o bs) × (exit ≡ commitBuffer o old bs states ts)
+        unfolding appendedAnswer commitAnswer commitChecks checked commitBuffer bufferWith
+        commit-done h end id count exit e i c x =
+            let a : commitAnswer (length old) o bs ≡ Accepted (newEnd o bs ∷ manifestId o bs ∷ newCount o bs ∷ []) =
+            rw (le-ltb maxEntries (newCount o bs) at-most, fit, le-ltb maxFile (newEnd o bs) within, le-ltb (length old) (newEnd o bs) h) in
             (rw (e, i, c) (sym a), x ∙ sym (ap (bufferWith o old bs (take (newCount o bs) states) ts) a))
 
 -- ---- the numbers, as the code has them

@@ -16,18 +16,18 @@ use Rattle.idmap.specs.DecodeLaws.{lowOf, low-more}
 -- ---- rising ids: where the loop stands
 
 pub record RiseAt (ids : List ℕ) (i prev : ℕ) : Type 0 where
-  pub few : i ≤ length ids
+  pub at-most : i ≤ length ids
   pub same : risesFrom (lowOf i prev) (drop i ids) ≡ risesFrom 0 ids
 
 pub rise-first : (ids : List ℕ) → RiseAt ids 0 0
-rise-first ids = record { few = omega arith; same = refl }
+rise-first ids = record { at-most = omega arith; same = refl }
 
 module _ (ids : List ℕ) (i prev : ℕ) (st : RiseAt ids i prev) (h : i < length ids) where
   pub rise-next : leb (lowOf i prev) (getD ids i 0) ≡ true → RiseAt ids (i + 1) (getD ids i 0)
   unfolding risesFrom
   rise-next up =
       let one : risesFrom (lowOf i prev) (drop i ids) ≡ risesFrom (suc (getD ids i 0)) (drop (suc i) ids) = rw (drop-cons ids i 0 h, up) in
-      record { few = omega arith; same = rw (low-more, add-one) (sym one ∙ st .same) }
+      record { at-most = omega arith; same = rw (low-more, add-one) (sym one ∙ st .same) }
 
   pub rise-stop : leb (lowOf i prev) (getD ids i 0) ≡ false → false ≡ risesFrom 0 ids
   unfolding risesFrom

@@ -44,7 +44,7 @@ pub record Delta (ids : List ℕ) (encoding interval r : ℕ) : Type 0 where
   pub up : risesFrom 0 ids ≡ true
   pub pos : 0 < r
   pub small : r < 65600
-  pub few : groups (length ids) r ≤ length ids + (r - 1)
+  pub at-most : groups (length ids) r ≤ length ids + (r - 1)
   pub begins : 7 + 4 * groups (length ids) r ≡ 7 + length (restarts r 0 0 0 ids)
   pub bytes : mapBytes ids encoding interval ≡ mapHead 1 r (length ids) ++ (restarts r 0 0 0 ids ++ deltas r 0 0 ids)
   pub size : length (mapBytes ids encoding interval) ≡ 7 + 4 * groups (length ids) r + length (deltas r 0 0 ids)
@@ -61,7 +61,7 @@ delta-facts ids encoding interval r g e k =
       up = w .up;
       pos = pos;
       small = omega (arith, k, p .1, i);
-      few = groups-few (length ids) r;
+      at-most = groups-few (length ids) r;
       begins = ap (λ (n : ℕ). 7 + n) (sym (length-restarts r ids pos));
       bytes = b;
       size = ap length b ∙ length-delta ids r pos;
