@@ -80,25 +80,19 @@ fn fold(x: u64) -> u64
     steps(0x24_9E3E_9380, 8, x % 256).register ^ r1
 }
 
-fn wide(b: u8) -> u64
-    ensures { λ r. ⌜ (r ≡ b) × (r < 256) ⌝ }
-{
-    b as u64
-}
-
 // The number of the eight bytes at a place, the lowest first. The compiler makes one load of the eight.
 fn word_at(s: &[u8], at: usize) -> u64
     requires { ⌜ at + 8 ≤ length (now s) ⌝ }
     ensures { λ r. ⌜ r ≡ eight (now (s .entry)) at ⌝ }
 {
-    let a = wide(s[at]);
-    let b = wide(s[at + 1]);
-    let c = wide(s[at + 2]);
-    let d = wide(s[at + 3]);
-    let e = wide(s[at + 4]);
-    let f = wide(s[at + 5]);
-    let g = wide(s[at + 6]);
-    let h = wide(s[at + 7]);
+    let a = octets::wide(s[at]);
+    let b = octets::wide(s[at + 1]);
+    let c = octets::wide(s[at + 2]);
+    let d = octets::wide(s[at + 3]);
+    let e = octets::wide(s[at + 4]);
+    let f = octets::wide(s[at + 5]);
+    let g = octets::wide(s[at + 6]);
+    let h = octets::wide(s[at + 7]);
     a + 256 * (b + 256 * (c + 256 * (d + 256 * (e + 256 * (f + 256 * (g + 256 * h))))))
 }
 
@@ -124,7 +118,7 @@ fn rest(c: u64, s: &[u8], at: usize) -> u64
         i += 8;
     }
     while i < s.len() {
-        x = steps(POLYNOMIAL, 8, x ^ wide(s[i])).register;
+        x = steps(POLYNOMIAL, 8, x ^ octets::wide(s[i])).register;
         i += 1;
     }
     x
