@@ -1,7 +1,7 @@
 // A manifest's payload written: its record of the entries, and the root behind it with its checksum.
 ghost use mathlib.Core.Path.{_≡_};
-ghost use Prim.Native.Nat.{_+_, _-_, _*_, _≤_, _<_, _^_};
-ghost use lib.ListN.{length, replicate};
+ghost use Prim.Native.Nat.{_+_, _≤_, _<_, _^_};
+ghost use lib.ListN.{length};
 ghost use Rattle.octets.specs.Over.{over};
 ghost use Rattle.octets.specs.Round.{round64};
 ghost use Rattle.manifest.specs.Payload.{payloadLength, root};
@@ -9,14 +9,6 @@ ghost use Rattle.manifest.specs.At.{Inside, payloadAt};
 
 // The bytes that a root begins with.
 const NAME: [u8; 4] = [0x52, 0x56, 0x4D, 0x30];
-
-// Zeros from a place to another.
-fn clear_part(buf: &mut [u8], from: usize, to: usize)
-    requires { ⌜ (from ≤ to) × (to ≤ length (now buf)) ⌝ }
-    ensures { λ _. ⌜ now (buf .exit) ≡ over (now (buf .entry)) from (replicate (to - from) 0) ⌝ }
-{
-    octets::clear(&mut buf[from..to]);
-}
 
 // The root of a manifest with c entries at the front of a buffer. Its checksum is taken of the bytes before it.
 pub fn put_root(buf: &mut [u8], c: usize, offset: u64, id: u64)
@@ -34,7 +26,7 @@ pub fn put_root(buf: &mut [u8], c: usize, offset: u64, id: u64)
     octets::le::put(buf, manifest::fields::ROOT_ID, 8, id);
     octets::le::put(buf, manifest::fields::ROOT_RECORD, 8, long as u64);
     octets::le::put(buf, manifest::fields::ROOT_END, 8, end);
-    clear_part(
+    octets::clear_part(
         buf,
         manifest::fields::ROOT_ZEROS,
         manifest::fields::ROOT_CHECKSUM,
@@ -68,7 +60,7 @@ pub fn put_payload(
     octets::le::put(buf, 2, 4, long as u64);
     octets::le::put(buf, 6, 2, 0);
     crate::entries::put_entries(buf, file, offsets, states);
-    clear_part(buf, end, filled);
+    octets::clear_part(buf, end, filled);
     put_root(&mut buf[filled..], c, offset, id);
     filled + manifest::fields::ROOT_SIZE
 }

@@ -37,9 +37,11 @@ fn steps(p: u64, k: usize, x: u64) -> Stepped
     Stepped { register, added }
 }
 
-// What stands for eight bytes thirty-two bytes on: each byte times the factor for its place, and the sum of the products.
-// They are not reduced, so the sum has up to 39 bits. The next word takes them in.
-fn far(x: u64) -> u64
+// What stands for a word of eight bytes four words on: each byte times the factor for its place, and the sum of the
+// products. They are not reduced, so the sum has up to 39 bits. The next word takes them in.
+// There are two such functions, and not one that is handed its eight factors: for that one the compiler, which does not know
+// the factors where it looks for such loops, lays down no table, and the checksum takes eleven times as long.
+fn four_words_on(x: u64) -> u64
     ensures { λ r. ⌜ Ahead 256 x r ⌝ }
 {
     let x1 = x / 256;
@@ -59,8 +61,8 @@ fn far(x: u64) -> u64
     steps(0x1E_D368_6580, 8, x % 256).register ^ r1
 }
 
-// The same, eight bytes on.
-fn fold(x: u64) -> u64
+// The same, one word on.
+fn one_word_on(x: u64) -> u64
     ensures { λ r. ⌜ Ahead 64 x r ⌝ }
 {
     let x1 = x / 256;
@@ -80,25 +82,19 @@ fn fold(x: u64) -> u64
     steps(0x24_9E3E_9380, 8, x % 256).register ^ r1
 }
 
-fn wide(b: u8) -> u64
-    ensures { λ r. ⌜ (r ≡ b) × (r < 256) ⌝ }
-{
-    b as u64
-}
-
 // The number of the eight bytes at a place, the lowest first. The compiler makes one load of the eight.
 fn word_at(s: &[u8], at: usize) -> u64
     requires { ⌜ at + 8 ≤ length (now s) ⌝ }
     ensures { λ r. ⌜ r ≡ eight (now (s .entry)) at ⌝ }
 {
-    let a = wide(s[at]);
-    let b = wide(s[at + 1]);
-    let c = wide(s[at + 2]);
-    let d = wide(s[at + 3]);
-    let e = wide(s[at + 4]);
-    let f = wide(s[at + 5]);
-    let g = wide(s[at + 6]);
-    let h = wide(s[at + 7]);
+    let a = octets::wide(s[at]);
+    let b = octets::wide(s[at + 1]);
+    let c = octets::wide(s[at + 2]);
+    let d = octets::wide(s[at + 3]);
+    let e = octets::wide(s[at + 4]);
+    let f = octets::wide(s[at + 5]);
+    let g = octets::wide(s[at + 6]);
+    let h = octets::wide(s[at + 7]);
     a + 256 * (b + 256 * (c + 256 * (d + 256 * (e + 256 * (f + 256 * (g + 256 * h))))))
 }
 
@@ -111,7 +107,7 @@ fn rest(c: u64, s: &[u8], at: usize) -> u64
     let mut x = c;
     let mut i = at;
     while s.len() - i >= 16 {
-        x = fold(x ^ word_at(s, i));
+        x = one_word_on(x ^ word_at(s, i));
         i += 8;
     }
     while s.len() - i >= 8 {
@@ -119,12 +115,12 @@ fn rest(c: u64, s: &[u8], at: usize) -> u64
         x = steps(
             POLYNOMIAL,
             16,
-            fold(y % 0x1_0000_0000_0000 * 0x1_0000) ^ (y / 0x1_0000_0000_0000),
+            one_word_on(y % 0x1_0000_0000_0000 * 0x1_0000) ^ (y / 0x1_0000_0000_0000),
         ).register;
         i += 8;
     }
     while i < s.len() {
-        x = steps(POLYNOMIAL, 8, x ^ wide(s[i])).register;
+        x = steps(POLYNOMIAL, 8, x ^ octets::wide(s[i])).register;
         i += 1;
     }
     x
@@ -151,15 +147,15 @@ fn lanes(c: u64, s: &[u8]) -> Entered
     let mut e: u64 = 0;
     let mut i: usize = 0;
     while s.len() - i >= 64 {
-        a = far(a ^ word_at(s, i));
-        b = far(b ^ word_at(s, i + 8));
-        d = far(d ^ word_at(s, i + 16));
-        e = far(e ^ word_at(s, i + 24));
+        a = four_words_on(a ^ word_at(s, i));
+        b = four_words_on(b ^ word_at(s, i + 8));
+        d = four_words_on(d ^ word_at(s, i + 16));
+        e = four_words_on(e ^ word_at(s, i + 24));
         i += 32;
     }
-    let x = fold(a ^ word_at(s, i));
-    let y = fold(x ^ b ^ word_at(s, i + 8));
-    let z = fold(y ^ d ^ word_at(s, i + 16));
+    let x = one_word_on(a ^ word_at(s, i));
+    let y = one_word_on(x ^ b ^ word_at(s, i + 8));
+    let z = one_word_on(y ^ d ^ word_at(s, i + 16));
     Entered {
         register: z ^ e,
         at: i + 24,

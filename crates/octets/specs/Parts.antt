@@ -5,8 +5,8 @@ use mathlib.Core.Path.{_≡_, refl, _∙_}
 use mathlib.Core.List.{List, [], _∷_, _++_, append-nil}
 use native.Mathlib.Nat.{zero-add}
 use native.Mathlib.Omega.{arith}
-use lib.ListN.{length, take, drop, length-drop, drop-of-length-le}
-use lib.Seq.{take-all, take-take, drop-drop}
+use lib.ListN.{length, take, drop, replicate, length-drop, length-replicate, drop-of-length-le}
+use lib.Seq.{take-all, take-take, drop-drop, length-take-le}
 use borrow.Rule.Slice.PartMut.{putMid}
 use Rattle.octets.specs.Over.{over}
 use Rattle.octets.specs.OverLaws.{length-over, over-next}
@@ -40,3 +40,11 @@ pub back-next : (xs xs′ : List ℕ) (a : ℕ) (ys b c : List ℕ) → xs′ �
 back-next xs xs′ a ys b c p q h =
     let n : length xs′ ≡ length xs = rw p (length-over xs a b (omega arith)) in
     back xs′ (a + length b) ys c q (omega arith) ∙ rw p (over-next xs a b c (omega arith))
+
+-- a part that came back as zeros
+pub cleared : (buf ys : List ℕ) (from to : ℕ) → from ≤ to → to ≤ length buf → ys ≡ replicate (length (take (to - from) (drop from buf))) 0
+    → putMid from (to - from) buf ys ≡ over buf from (replicate (to - from) 0)
+unfolding over
+cleared buf ys from to h k p =
+    let n : length (take (to - from) (drop from buf)) ≡ to - from = length-take-le (to - from) (drop from buf) (omega (arith, length-drop from buf)) in
+    rw (p, n, length-replicate, drop-drop)

@@ -1,10 +1,10 @@
-// Slices of bytes: copied, cleared, tested for zero, compared; and rounding to 64.
+// Slices of bytes: copied, cleared, tested for zero, compared; a byte as a number; and rounding to 64.
 pub mod le;
 pub mod numbers;
 pub mod text;
 
 ghost use mathlib.Core.Path.{_≡_};
-ghost use Prim.Native.Nat.{_+_, _≤_, _<_, _^_};
+ghost use Prim.Native.Nat.{_+_, _-_, _≤_, _<_, _^_};
 ghost use lib.ListN.{length, replicate};
 ghost use Rattle.octets.specs.Over.{over};
 ghost use Rattle.octets.specs.Round.{round64};
@@ -16,6 +16,13 @@ pub fn round_up(n: usize) -> usize
     ensures { λ r. ⌜ r ≡ round64 n ⌝ }
 {
     (n + 63) / 64 * 64
+}
+
+// A byte as a number of 64 bits. The promise that it is below 256 saves its callers a proof.
+pub fn wide(b: u8) -> u64
+    ensures { λ r. ⌜ (r ≡ b) × (r < 256) ⌝ }
+{
+    b as u64
 }
 
 // A list of bytes at the front of a buffer; the bytes behind it stay.
@@ -39,6 +46,14 @@ pub fn clear(buf: &mut [u8])
         buf[i] = 0;
         i += 1;
     }
+}
+
+// Zeros from a place to another.
+pub fn clear_part(buf: &mut [u8], from: usize, to: usize)
+    requires { ⌜ (from ≤ to) × (to ≤ length (now buf)) ⌝ }
+    ensures { λ _. ⌜ now (buf .exit) ≡ over (now (buf .entry)) from (replicate (to - from) 0) ⌝ }
+{
+    clear(&mut buf[from..to]);
 }
 
 // Whether every byte is zero. The bytes are gathered by `or`: a loop that leaves early takes many times longer.

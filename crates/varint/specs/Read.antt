@@ -44,14 +44,14 @@ next-more i acc p b (Value v n) = pick (eqb v 0) refl
         rw (nz, e, f)
 
 -- where a loop over the bytes stands: i are passed, of the value acc, and the next has the weight p
-pub record Stands (i acc p : ℕ) : Type 0 where
+pub record ReadSoFar (i acc p : ℕ) : Type 0 where
   pub some : 1 ≤ i
-  pub few : i ≤ 9
+  pub at-most : i ≤ 9
   pub low : acc < p
   pub weight : p ≡ 128 ^ i
 
-pub starts : (x : ℕ) → x < 128 → Stands 1 x 128
-starts x h = record { some = omega arith; few = omega arith; low = h; weight = refl }
+pub starts : (x : ℕ) → x < 128 → ReadSoFar 1 x 128
+starts x h = record { some = omega arith; at-most = omega arith; low = h; weight = refl }
 
 -- a byte's weight: below 128 it takes no more than the next weight
 under : (p b : ℕ) → b < 128 → p * b + p ≤ p * 128
@@ -60,19 +60,19 @@ under p b h =
     omega (arith, e, mul-le-mul-left {m = b + 1} {n = 128} p (omega arith))
 
 -- seven bits more fit 64
-pub stands-fits : (i acc p b : ℕ) → Stands i acc p → i < 9 → b < 128 → (acc + p * b < 2 ^ 64) × (p * 128 < 2 ^ 64)
+pub stands-fits : (i acc p b : ℕ) → ReadSoFar i acc p → i < 9 → b < 128 → (acc + p * b < 2 ^ 64) × (p * 128 < 2 ^ 64)
 stands-fits i acc p b s h hb =
     let low = s .low in
     let e : 128 ^ suc i ≡ p * 128 = pow-suc 128 i ∙ ap (λ (m : ℕ). m * 128) (sym (s .weight)) in
     let f : 128 ^ suc i ≤ 128 ^ 9 = pow-le-pow-right {n = 128} (lit< tt) {i = suc i} {j = 9} h in
     (omega (arith, e, f, under p b hb), omega (arith, e, f))
 
-pub stands-next : (i acc p b : ℕ) → Stands i acc p → i < 9 → b < 256 → 128 ≤ b → Stands (i + 1) (acc + p * (b - 128)) (p * 128)
+pub stands-next : (i acc p b : ℕ) → ReadSoFar i acc p → i < 9 → b < 256 → 128 ≤ b → ReadSoFar (i + 1) (acc + p * (b - 128)) (p * 128)
 stands-next i acc p b s h hb hb′ =
     let l = s .low in
     record {
       some = omega arith;
-      few = omega arith;
+      at-most = omega arith;
       low = omega (arith, under p (b - 128) (omega arith));
       weight = rw (add-one i, pow-suc 128 i) (ap (λ (m : ℕ). m * 128) (s .weight));
     }
@@ -83,7 +83,7 @@ module _ (s : List ℕ) (at i acc p : ℕ) where
   unfoldable pub Left : Varint
   Left = onto i acc p (decode (10 - i) (drop (at + i) s))
 
-module _ (s : List ℕ) (at i acc p : ℕ) (few : i ≤ 9) where
+module _ (s : List ℕ) (at i acc p : ℕ) (at-most : i ≤ 9) where
   fuel : 10 - i ≡ suc (9 - i)
   fuel = omega arith
 
@@ -141,7 +141,7 @@ module _ (s : List ℕ) (at i acc p : ℕ) (few : i ≤ 9) where
         rw (left-more h k2, e)
 
     -- the tenth byte is 1, or the varint is bad
-    pub tenth-one : i ≡ 9 → Stands i acc p → b ≡ 1 → Value (acc + p) 10 ≡ Left s at i acc p
+    pub tenth-one : i ≡ 9 → ReadSoFar i acc p → b ≡ 1 → Value (acc + p) 10 ≡ Left s at i acc p
     tenth-one n st o =
         let w : p ≡ 2 ^ 63 = (rw n at (st .weight)) in
         let l = st .low in
@@ -150,7 +150,7 @@ module _ (s : List ℕ) (at i acc p : ℕ) (few : i ≤ 9) where
         let g : acc + p * b < 2 ^ 64 = omega arith in
         rw (e, f) at (left-value (omega arith) (λ z. omega arith) g)
 
-    pub tenth-bad : i ≡ 9 → Stands i acc p → (b ≡ 1 → ⊥) → bad ≡ Left s at i acc p
+    pub tenth-bad : i ≡ 9 → ReadSoFar i acc p → (b ≡ 1 → ⊥) → bad ≡ Left s at i acc p
     tenth-bad n st o = pick (eqb b 0) (ltb b 128) refl refl
       where
         pick : (t u : Bool) → eqb b 0 ≡ t → ltb b 128 ≡ u → bad ≡ Left s at i acc p

@@ -43,32 +43,32 @@ room-more (suc (suc k)) n h q =
     (omega arith, rw e (omega arith))
 
 -- where a loop over the bytes of x stands: d are passed, and rest is what is left of x
-pub record Stands (x d rest : ℕ) : Type 0 where
-  pub few : d ≤ 9
+pub record ReadSoFar (x d rest : ℕ) : Type 0 where
+  pub at-most : d ≤ 9
   pub left : drop d (varintOf x) ≡ leb128 (10 - d) rest
   pub room : rest < 128 ^ (10 - d)
 
-pub stands-first : (x : ℕ) → x < 2 ^ 64 → Stands x 0 x
+pub stands-first : (x : ℕ) → x < 2 ^ 64 → ReadSoFar x 0 x
 unfolding varintOf
-stands-first x h = record { few = omega arith; left = refl; room = omega arith }
+stands-first x h = record { at-most = omega arith; left = refl; room = omega arith }
 
-pub stands-byte : (x d rest : ℕ) → Stands x d rest → 128 ≤ rest → Goes (varintOf x) d (rest % 128 + 128) (leb128 (9 - d) (rest / 128))
+pub stands-byte : (x d rest : ℕ) → ReadSoFar x d rest → 128 ≤ rest → Goes (varintOf x) d (rest % 128 + 128) (leb128 (9 - d) (rest / 128))
 stands-byte x d rest s h =
-    let few = s .few in
+    let at-most = s .at-most in
     let e : 10 - d ≡ suc (9 - d) = omega arith in
     goes (varintOf x) d _ _ ((rw e at (s .left)) ∙ leb-more (9 - d) rest h)
 
-pub stands-more : (x d rest : ℕ) → Stands x d rest → 128 ≤ rest → Stands x (d + 1) (rest / 128)
+pub stands-more : (x d rest : ℕ) → ReadSoFar x d rest → 128 ≤ rest → ReadSoFar x (d + 1) (rest / 128)
 stands-more x d rest s h =
-    let few = s .few in
+    let at-most = s .at-most in
     let r = room-more (10 - d) rest h (s .room) in
     let e : 10 - (d + 1) ≡ 9 - d = omega arith in
     let f : 10 - d - 1 ≡ 9 - d = omega arith in
-    record { few = omega (arith, r .0); left = rw (e, add-one) (stands-byte x d rest s h .on); room = rw e (rw f at (r .1)) }
+    record { at-most = omega (arith, r .0); left = rw (e, add-one) (stands-byte x d rest s h .on); room = rw e (rw f at (r .1)) }
 
-pub stands-last : (x d rest : ℕ) → Stands x d rest → rest < 128 → Goes (varintOf x) d rest []
+pub stands-last : (x d rest : ℕ) → ReadSoFar x d rest → rest < 128 → Goes (varintOf x) d rest []
 stands-last x d rest s h =
-    let few = s .few in
+    let at-most = s .at-most in
     let e : 10 - d ≡ suc (9 - d) = omega arith in
     goes (varintOf x) d _ _ ((rw e at (s .left)) ∙ leb-last (9 - d) rest h)
 

@@ -12,12 +12,6 @@ pub enum Varint {
     Refused(u32),
 }
 
-fn wide(b: u8) -> u64
-    ensures { λ r. ⌜ (r ≡ b) × (r < 256) ⌝ }
-{
-    b as u64
-}
-
 // The varint at a place of a slice.
 pub fn read_at(s: &[u8], at: usize) -> Varint
     ensures { λ r. ⌜ r ≡ readVarint (drop at (now (s .entry))) ⌝ }
@@ -25,7 +19,7 @@ pub fn read_at(s: &[u8], at: usize) -> Varint
     if s.len() <= at {
         return Varint::Refused(5);
     }
-    let b = wide(s[at]);
+    let b = octets::wide(s[at]);
     if b < 128 {
         return Varint::Value {
             value: b,
@@ -47,7 +41,7 @@ fn read_rest(s: &[u8], at: usize, first: u64) -> Varint
         if s.len() - at <= i {
             return Varint::Refused(5);
         }
-        let b = wide(s[at + i]);
+        let b = octets::wide(s[at + i]);
         if b == 0 {
             return Varint::Refused(5);
         }
@@ -64,7 +58,7 @@ fn read_rest(s: &[u8], at: usize, first: u64) -> Varint
     if s.len() - at <= 9 {
         return Varint::Refused(5);
     }
-    let b = wide(s[at + 9]);
+    let b = octets::wide(s[at + 9]);
     if b == 1 {
         return Varint::Value {
             value: acc + p,
@@ -82,7 +76,7 @@ pub fn read(s: &[u8]) -> Varint
     if s.len() == 0 {
         return Varint::Refused(5);
     }
-    let b = wide(s[0]);
+    let b = octets::wide(s[0]);
     if b < 128 {
         return Varint::Value {
             value: b,

@@ -8,15 +8,6 @@ ghost use Rattle.octets.specs.Round.{round64};
 ghost use Rattle.idmap.specs.Encode.{mapBytes, mapBad};
 ghost use Rattle.vecseg.specs.Writer.{blockBytes, padding, directory};
 
-// Zeros from a place to the next multiple of 64.
-fn pad(buf: &mut [u8], at: usize)
-    requires { ⌜ round64 at ≤ length (now buf) ⌝ }
-    ensures { λ _. ⌜ now (buf .exit) ≡ over (now (buf .entry)) at (padding at) ⌝ }
-{
-    let end = octets::round_up(at);
-    octets::clear(&mut buf[at..end]);
-}
-
 // The directory of one block, which begins at 64.
 pub fn put_directory(buf: &mut [u8], count: u64, dim: u64, dtype: u64, tier: u64)
     requires { ⌜ 64 ≤ length (now buf) ⌝ }
@@ -29,7 +20,7 @@ pub fn put_directory(buf: &mut [u8], count: u64, dim: u64, dtype: u64, tier: u64
     octets::le::put(buf, 12, 2, dim);
     octets::le::put(buf, 14, 1, dtype);
     octets::le::put(buf, 15, 1, tier);
-    pad(buf, 16);
+    octets::clear_part(buf, 16, 64);
 }
 
 // The block at the front of a buffer, with its padding: columns, id map, the checksum of both, which end at `end`.
@@ -46,10 +37,12 @@ pub fn put_block(
     requires { ⌜ round64 (end + 4) ≤ length (now buf) ⌝ }
     ensures { λ _. ⌜ now (buf .exit) ≡ over (now (buf .entry)) 0 (blockBytes (now (columns .entry)) (mapBytes (now (ids .entry)) encoding interval) ++ padding (end + 4)) ⌝ }
 {
+    let summed = end + 4;
+    let filled = octets::round_up(summed);
     octets::copy(buf, columns);
     let at = columns.len();
     idmap_write::put(&mut buf[at..], ids, encoding, interval);
     let crc = crc32c::checksum(&buf[..end]);
     octets::le::put(buf, end, 4, crc as u64);
-    pad(buf, end + 4);
+    octets::clear_part(buf, summed, filled);
 }

@@ -5,8 +5,7 @@ use mathlib.Core.Path.{_≡_, refl, sym, _∙_}
 use mathlib.Core.List.{List, _++_}
 use native.Mathlib.Nat.{zero-add}
 use native.Mathlib.Omega.{arith}
-use lib.ListN.{length, take, drop, replicate, length-append, length-drop, length-replicate}
-use lib.Seq.{drop-drop, length-take-le}
+use lib.ListN.{length, take, drop, replicate, length-append, length-replicate}
 use borrow.Rule.Slice.PartMut.{putMid}
 use Rattle.octets.specs.Over.{over}
 use Rattle.octets.specs.OverLaws.{over-then, over-at, length-over}
@@ -49,14 +48,11 @@ pub payload-size : (ids columns : List ℕ) (dim dtype tier encoding interval m 
     → 64 + n ≡ length (vecBytes ids columns dim dtype tier encoding interval)
 payload-size ids columns dim dtype tier encoding interval m n e k = rw (length-payload, k, e)
 
--- ---- zeros from a place to the next multiple of 64
+-- ---- zeros from a place to the next multiple of 64 are the padding
 
-pub pad-laid : (buf ys : List ℕ) (at end : ℕ) → end ≡ round64 at → end ≤ length buf → ys ≡ replicate (length (take (end - at) (drop at buf))) 0
-    → putMid at (end - at) buf ys ≡ over buf at (padding at)
-unfolding over padding
-pad-laid buf ys at end e h p =
-    let n : length (take (end - at) (drop at buf)) ≡ end - at = length-take-le (end - at) (drop at buf) (omega (arith, length-drop at buf)) in
-    rw (p, n, ← e, length-replicate, drop-drop)
+pub padded : (buf b : List ℕ) (at end : ℕ) → end ≡ round64 at → b ≡ over buf at (replicate (end - at) 0) → b ≡ over buf at (padding at)
+unfolding padding
+padded buf b at end e p = rw e at p
 
 -- ---- the directory, field by field, and its fill
 

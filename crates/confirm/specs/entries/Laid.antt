@@ -6,8 +6,8 @@ use mathlib.Core.List.{List, [], _∷_, _++_, append-assoc}
 use native.Mathlib.Nat.{zero-add}
 use native.Mathlib.Numerals.{add-one}
 use native.Mathlib.Omega.{arith}
-use lib.ListN.{length, take, drop, getD, set, replicate, length-append, length-drop, length-replicate}
-use lib.Seq.{drop-drop, length-take-le, take-all, getD-take}
+use lib.ListN.{length, take, drop, getD, set, replicate, length-append, length-drop}
+use lib.Seq.{length-take-le, take-all, getD-take}
 use borrow.Rule.Slice.PartMut.{putMid}
 use Rattle.octets.specs.Over.{over}
 use Rattle.octets.specs.OverLaws.{over-none, over-turn, over-then, over-at, length-over}
@@ -36,13 +36,6 @@ pub stored : (buf : List ℕ) (at b : ℕ) → at < length buf → set buf at b 
 stored buf at b h =
     let e : at + 0 ≡ at = omega arith in
     rw e at (over-turn buf buf at [] 0 b (sym (over-none buf at)) refl (omega arith))
-
-pub cleared : (buf ys : List ℕ) (from to : ℕ) → from ≤ to → to ≤ length buf → ys ≡ replicate (length (take (to - from) (drop from buf))) 0
-    → putMid from (to - from) buf ys ≡ over buf from (replicate (to - from) 0)
-unfolding over
-cleared buf ys from to h k p =
-    let n : length (take (to - from) (drop from buf)) ≡ to - from = length-take-le (to - from) (drop from buf) (omega (arith, length-drop from buf)) in
-    rw (p, n, length-replicate, drop-drop)
 
 -- ---- an entry, field by field
 

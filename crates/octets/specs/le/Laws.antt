@@ -89,7 +89,7 @@ leBytes-more (suc k) n =
 
 -- the reading loop, from the highest byte down: r is the number of the k - i bytes from at + i on
 pub record Reads (s : List ℕ) (at k i r : ℕ) : Type 0 where
-  pub few : i ≤ k
+  pub at-most : i ≤ k
   pub value : r ≡ leAt (k - i) s (at + i)
   pub room : r < 256 ^ (k - i)
 
@@ -97,7 +97,7 @@ pub reads-first : (s : List ℕ) (at k : ℕ) → Reads s at k k 0
 unfolding leOf
 reads-first s at k =
     let e : k - k ≡ 0 = omega arith in
-    record { few = omega arith; value = rw e; room = rw e (lit< tt) }
+    record { at-most = omega arith; value = rw e; room = rw e (lit< tt) }
 
 -- a number with room for n bytes, and one byte more, has room for n + 1, and fits 64 bits where n is below 8
 more : (r b n : ℕ) → r < 256 ^ n → b < 256 → r * 256 + b < 256 ^ suc n
@@ -105,18 +105,18 @@ more r b n h hb = rw (pow-suc 256 n) (omega arith)
 
 pub reads-fits : (s : List ℕ) (at k i r b : ℕ) → Reads s at k i r → k ≤ 8 → 0 < i → b < 256 → r * 256 + b < 2 ^ 64
 reads-fits s at k i r b st hk hi hb =
-    let few = st .few in
+    let at-most = st .at-most in
     omega (arith, more r b (k - i) (st .room) hb, pow-le-pow-right {n = 256} (lit< tt) {i = suc (k - i)} {j = 8} (omega arith))
 
 pub reads-next : (s : List ℕ) (at k i r b : ℕ) → Reads s at k i r → 0 < i → at + k ≤ length s → b ≡ getD s (at + (i - 1)) 0 → b < 256
     → Reads s at k (i - 1) (r * 256 + b)
 reads-next s at k i r b st hi hs is hb =
-    let few = st .few in
+    let at-most = st .at-most in
     let e : k - (i - 1) ≡ suc (k - i) = omega arith in
     let e2 : at + i ≡ suc (at + (i - 1)) = omega arith in
     let p : r ≡ leAt (k - i) s (suc (at + (i - 1))) = rw e2 at (st .value) in
     record {
-      few = omega arith;
+      at-most = omega arith;
       value = rw e (omega (arith, p, le-step (k - i) s (at + (i - 1)) (omega arith)));
       room = rw e (more r b (k - i) (st .room) hb);
     }
@@ -129,30 +129,30 @@ reads-last s at k i r st h =
 
 -- the writing loop: i bytes are written, and rest is what is left of x
 pub record Writes (s₀ s : List ℕ) (at k x i rest : ℕ) : Type 0 where
-  pub few : i ≤ k
+  pub at-most : i ≤ k
   pub laid : s ≡ over s₀ at (leBytes i x)
   pub left : rest ≡ x / 256 ^ i
 
 pub writes-first : (s : List ℕ) (at k x : ℕ) → Writes s s at k x 0 x
 unfolding leBytes
-writes-first s at k x = record { few = omega arith; laid = sym (over-none s at); left = sym (div-one x) }
+writes-first s at k x = record { at-most = omega arith; laid = sym (over-none s at); left = sym (div-one x) }
 
 pub writes-next : (s₀ s : List ℕ) (at k x i rest : ℕ) → Writes s₀ s at k x i rest → at + k ≤ length s₀ → i < k
     → Writes s₀ (set s (at + i) (rest % 256)) at k x (i + 1) (rest / 256)
 writes-next s₀ s at k x i rest st hs hi =
     record {
-      few = omega arith;
+      at-most = omega arith;
       laid = rw (add-one, leBytes-more, ← (st .left)) (over-turn s₀ s at (leBytes i x) i (rest % 256) (st .laid) (length-leBytes i x) (omega arith));
       left = rw (add-one, st .left, pow-suc) (div-div-eq-div-mul x (256 ^ i) 256);
     }
 
 pub writes-long : (s₀ s : List ℕ) (at k x i rest : ℕ) → Writes s₀ s at k x i rest → at + k ≤ length s₀ → length s ≡ length s₀
 writes-long s₀ s at k x i rest st hs =
-    let few = st .few in
+    let at-most = st .at-most in
     over-long s₀ s at (leBytes i x) i (st .laid) (length-leBytes i x) (omega arith)
 
 pub writes-last : (s₀ s : List ℕ) (at k x i rest : ℕ) → Writes s₀ s at k x i rest → k ≤ i → s ≡ over s₀ at (leBytes k x)
 writes-last s₀ s at k x i rest st h =
-    let few = st .few in
+    let at-most = st .at-most in
     let e : i ≡ k = omega arith in
     rw e at (st .laid)

@@ -53,7 +53,7 @@ shift i (some j) = some (i + j)
 
 -- where the loop stands: none of the first i is x
 pub record IndexAt (x : ℕ) (ids : List ℕ) (i : ℕ) : Type 0 where
-  pub few : i ≤ length ids
+  pub at-most : i ≤ length ids
   pub same : shift i (indexOf x (drop i ids)) ≡ indexOf x ids
 
 shift-zero : (o : Option ℕ) → shift 0 o ≡ o
@@ -62,7 +62,7 @@ shift-zero none = refl
 shift-zero (some j) = let e : 0 + j ≡ j = omega arith in ap some e
 
 pub index-first : (x : ℕ) (ids : List ℕ) → IndexAt x ids 0
-index-first x ids = record { few = omega arith; same = shift-zero (indexOf x ids) }
+index-first x ids = record { at-most = omega arith; same = shift-zero (indexOf x ids) }
 
 module _ (x : ℕ) (ids : List ℕ) (i : ℕ) (st : IndexAt x ids i) (h : i < length ids) where
   pub index-here : getD ids i 0 ≡ x → some i ≡ indexOf x ids
@@ -82,7 +82,7 @@ module _ (x : ℕ) (ids : List ℕ) (i : ℕ) (st : IndexAt x ids i) (h : i < le
   index-next e =
       let one : shift i (indexOf x (drop i ids)) ≡ shift (suc i) (indexOf x (drop (suc i) ids)) =
       rw (drop-cons ids i 0 h, ne-eqb (getD ids i 0) x e) (shift-suc (indexOf x (drop (suc i) ids))) in
-      record { few = omega arith; same = rw add-one (sym one ∙ st .same) }
+      record { at-most = omega arith; same = rw add-one (sym one ∙ st .same) }
 
 pub index-last : (x : ℕ) (ids : List ℕ) (i : ℕ) → IndexAt x ids i → length ids ≤ i → none ≡ indexOf x ids
 unfolding indexOf shift

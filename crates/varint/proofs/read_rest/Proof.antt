@@ -5,13 +5,13 @@ use mathlib.Core.Path.{_≡_, refl, sym, _∙_}
 use native.Mathlib.Omega.{arith}
 use lib.ListN.{length, getD, drop}
 use Rattle.varint.specs.Varint.{onto, decode}
-use Rattle.varint.specs.Read.{Left, Stands, starts, stands-fits, stands-next, left-none, left-zero, left-value, left-next, tenth-one, tenth-bad}
+use Rattle.varint.specs.Read.{Left, ReadSoFar, starts, stands-fits, stands-next, left-none, left-zero, left-value, left-next, tenth-one, tenth-bad}
 use borrow.Author.Needs.{needs}
 use Rattle.varint.proofs.read_rest.Statement.{statement}
 use Rattle.varint.proofs.read_rest.Tie as tie
 
 abbrev Inv-loop : tie.InvT-loop
-Inv-loop s at first i₀ acc₀ p₀ i acc p = (Stands i acc p) × (Left s at i acc p ≡ onto 1 first 128 (decode 9 (drop (at + 1) s)))
+Inv-loop s at first i₀ acc₀ p₀ i acc p = (ReadSoFar i acc p) × (Left s at i acc p ≡ onto 1 first 128 (decode 9 (drop (at + 1) s)))
 
 abbrev μ-loop : tie.MeasureT-loop
 μ-loop s at first i₀ acc₀ p₀ i acc p = 9 - i
@@ -24,14 +24,14 @@ returns : tie.Need-returns Inv-loop μ-loop
 returns c =
     let l = c .before .before .loop in
     let a = c .before .before .before .before .args in
-    left-none (a .s .now) (a .at) (l .i) (l .acc) (l .p) (l .inv .0 .few) (omega arith) ∙ l .inv .1
+    left-none (a .s .now) (a .at) (l .i) (l .acc) (l .p) (l .inv .0 .at-most) (omega arith) ∙ l .inv .1
 
 returns-2 : tie.Need-returns-2 Inv-loop μ-loop
 returns-2 c =
     let l′ = c .before .before .before .before .before in
     let l = l′ .loop in
     let a = l′ .before .before .args in
-    left-zero (a .s .now) (a .at) (l .i) (l .acc) (l .p) (l .inv .0 .few) (c .before .wide .result)
+    left-zero (a .s .now) (a .at) (l .i) (l .acc) (l .p) (l .inv .0 .at-most) (c .before .wide .result)
     (c .before .wide .ensures .0) (omega arith) (c .if2 .taken) ∙ l .inv .1
 
 mul-t14 : tie.Need-mul-t14 Inv-loop μ-loop
@@ -50,7 +50,7 @@ returns-3 c =
     let l = l′ .loop in
     let a = l′ .before .before .args in
     let b = c .before .before .wide in
-    left-value (a .s .now) (a .at) (l .i) (l .acc) (l .p) (l .inv .0 .few) (b .result) (b .ensures .0)
+    left-value (a .s .now) (a .at) (l .i) (l .acc) (l .p) (l .inv .0 .at-most) (b .result) (b .ensures .0)
     (omega arith) (c .if3 .taken) (c .before .if2 .left)
     (stands-fits _ _ _ (b .result) (l .inv .0) (omega arith) (omega arith) .0)
     ∙ l .inv .1
@@ -79,20 +79,20 @@ loop-again c =
     let k : 128 ≤ getD (a .s .now) (a .at + l .i) 0 = omega arith in (
       stands-next _ _ _ _ (l .inv .0) (omega arith) (omega arith) (c .if3 .left),
       rw (b .ensures .0)
-          (sym (left-next (a .s .now) (a .at) (l .i) (l .acc) (l .p) (l .inv .0 .few) (omega arith) k) ∙ l .inv .1),
+          (sym (left-next (a .s .now) (a .at) (l .i) (l .acc) (l .p) (l .inv .0 .at-most) (omega arith) k) ∙ l .inv .1),
     )
 
 returns-4 : tie.Need-returns-4 Inv-loop μ-loop
 returns-4 c =
     let l = c .before .before .loop in
     let a = c .before .before .before .before .args in
-    let few = l .inv .0 .few in
-    left-none (a .s .now) (a .at) (l .i) (l .acc) (l .p) few (omega arith) ∙ l .inv .1
+    let at-most = l .inv .0 .at-most in
+    left-none (a .s .now) (a .at) (l .i) (l .acc) (l .p) at-most (omega arith) ∙ l .inv .1
 
 add-t24 : tie.Need-add-t24 Inv-loop μ-loop
 add-t24 c =
     let l = c .before .before .before .before .before .loop in
-    let few = l .inv .0 .few in
+    let at-most = l .inv .0 .at-most in
     let low = l .inv .0 .low in
     let nine : l .i ≡ 9 = omega arith in
     let w : l .p ≡ 2 ^ 63 = (rw nine at (l .inv .0 .weight)) in
@@ -103,24 +103,24 @@ returns-5 c =
     let l′ = c .before .before .before .before .before in
     let l = l′ .loop in
     let a = l′ .before .before .args in
-    let few = l .inv .0 .few in
+    let at-most = l .inv .0 .at-most in
     let nine : l .i ≡ 9 = omega arith in
     let b = c .before .wide2 in
     let q : a .at + 9 ≡ a .at + l .i = omega arith in
     let is : b .result ≡ getD (a .s .now) (a .at + l .i) 0 = rw q at (b .ensures .0) in
-    tenth-one (a .s .now) (a .at) (l .i) (l .acc) (l .p) few (b .result) is (omega arith) nine (l .inv .0) (c .if5 .taken) ∙ l .inv .1
+    tenth-one (a .s .now) (a .at) (l .i) (l .acc) (l .p) at-most (b .result) is (omega arith) nine (l .inv .0) (c .if5 .taken) ∙ l .inv .1
 
 returns-6 : tie.Need-returns-6 Inv-loop μ-loop
 returns-6 c =
     let l′ = c .before .before .before .before .before in
     let l = l′ .loop in
     let a = l′ .before .before .args in
-    let few = l .inv .0 .few in
+    let at-most = l .inv .0 .at-most in
     let nine : l .i ≡ 9 = omega arith in
     let b = c .before .wide2 in
     let q : a .at + 9 ≡ a .at + l .i = omega arith in
     let is : b .result ≡ getD (a .s .now) (a .at + l .i) 0 = rw q at (b .ensures .0) in
-    tenth-bad (a .s .now) (a .at) (l .i) (l .acc) (l .p) few (b .result) is (omega arith) nine (l .inv .0) (c .if5 .left) ∙ l .inv .1
+    tenth-bad (a .s .now) (a .at) (l .i) (l .acc) (l .p) at-most (b .result) is (omega arith) nine (l .inv .0) (c .if5 .left) ∙ l .inv .1
 
 pub read-rest-spec : {M : Type 1} → statement M
 read-rest-spec =

@@ -1,4 +1,4 @@
--- `manifest_payload::put_payload` meets its contract: the record's head, entries, fill, and the root in the part behind them.
+-- `confirm::payload::put_payload` meets its contract: the record's head, entries, fill, and the root in the part behind them.
 -- Assumes nothing.
 use Prim.Native.Nat.{ℕ, _+_, _≤_}
 use mathlib.Core.Path.{_≡_, ap, sym, _∙_}

@@ -1,4 +1,4 @@
--- `manifest_payload::put_root` meets its contract: the fields, zeros, and the checksum of both.
+-- `confirm::payload::put_root` meets its contract: the fields, zeros, and the checksum of both.
 -- Assumes nothing.
 use Prim.Native.Nat.{ℕ, _+_, _≤_}
 use mathlib.Core.Path.{_≡_, sym, ap, _∙_}

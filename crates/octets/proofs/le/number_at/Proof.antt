@@ -24,10 +24,10 @@ mul-r c =
     record { fits = omega (arith, reads-fits _ _ _ _ _ 0 (l .inv) (c .before .before .pre .1) (omega arith) (lit< tt)) }
 
 add-r : tie.Need-add-r Inv-loop μ-loop
-add-r c = let few = c .before .loop .inv .few in omega arith
+add-r c = let at-most = c .before .loop .inv .at-most in omega arith
 
 shared-slice-read-r : tie.Need-shared-slice-read-r Inv-loop μ-loop
-shared-slice-read-r c = let few = c .before .before .loop .inv .few in omega arith
+shared-slice-read-r c = let at-most = c .before .before .loop .inv .at-most in omega arith
 
 cast-r : tie.Need-cast-r Inv-loop μ-loop
 cast-r c = omega (arith, c .shared-slice-known .given (c .before .before .before .args .at + (c .before .before .loop .i - 1)))

@@ -2,13 +2,13 @@
 -- Assumes nothing.
 use Prim.Native.Nat.{_≤_}
 use native.Mathlib.Omega.{arith}
-use Rattle.varint.specs.Write.{Stands, stands-first, stands-more, stands-last, last-length}
+use Rattle.varint.specs.Write.{ReadSoFar, stands-first, stands-more, stands-last, last-length}
 use borrow.Author.Needs.{needs}
 use Rattle.varint.proofs.write.encoded_len.Statement.{statement}
 use Rattle.varint.proofs.write.encoded_len.Tie as tie
 
 abbrev Inv-loop : tie.InvT-loop
-Inv-loop x d₀ rest₀ d rest = (Stands x d rest) × (d ≤ 9)
+Inv-loop x d₀ rest₀ d rest = (ReadSoFar x d rest) × (d ≤ 9)
 
 abbrev μ-loop : tie.MeasureT-loop
 μ-loop x d₀ rest₀ d rest = rest
@@ -20,7 +20,7 @@ loop-again : tie.Need-loop-again Inv-loop μ-loop
 loop-again c =
     let l = c .before .loop in
     let s = stands-more _ _ _ (l .inv .0) (c .loop-test .taken) in
-    (s, s .few)
+    (s, s .at-most)
 
 returns : tie.Need-returns Inv-loop μ-loop
 returns c =

@@ -1,17 +1,18 @@
--- `vec_put::put_directory` meets its contract, field by field.
+-- `vec_write::parts::put_directory` meets its contract, field by field.
 -- Assumes nothing.
+use mathlib.Core.Path.{_≡_, refl}
 use native.Mathlib.Omega.{arith}
 use Rattle.octets.specs.Round.{round64}
-use Rattle.vecseg.specs.Laid.{directory-laid}
+use Rattle.vecseg.specs.Laid.{padded, directory-laid}
 use borrow.Author.Needs.{needs}
 use Rattle.vec_write.proofs.parts.put_directory.Statement.{statement}
 use Rattle.vec_write.proofs.parts.put_directory.Tie as tie
 
-pad-requires : tie.Need-pad-requires
-unfolding round64
-pad-requires c κs = omega arith
+clear-part-requires : tie.Need-clear-part-requires
+clear-part-requires c κs = (omega arith, omega arith)
 
 returns : tie.Need-returns
+unfolding round64
 returns c =
     let p6 = c .before .before .before .before .before .before in
     let p5 = p6 .before .before .before .before in
@@ -22,11 +23,11 @@ returns c =
     let s = p1 .before .before .before in
     directory-laid (s .args .buf .now) _ _ _ _ _ _ _ _ _ _ _ (s .pre .0) (s .pre .1 .0) (s .pre .1 .1)
     (p1 .put .ensures) (p2 .put2 .ensures) (p3 .put3 .ensures)
-    (p4 .put4 .ensures) (p5 .put5 .ensures) (p6 .put6 .ensures) (c .before .before .pad .ensures)
+    (p4 .put4 .ensures) (p5 .put5 .ensures) (p6 .put6 .ensures) (padded _ _ 16 64 refl (c .before .before .clear-part .ensures))
 
 pub put-directory-spec : {M : Type 1} → statement M
 put-directory-spec =
     tie.close
     (tie.spec
-    (search needs) (search needs) (search needs) (search needs) (search needs) (search needs) pad-requires
-    (search needs) returns)
+    (λ c κs. search needs) (λ c κs. search needs) (λ c κs. search needs) (λ c κs. search needs)
+    (λ c κs. search needs) (λ c κs. search needs) clear-part-requires (λ c. search needs) returns)

@@ -1,9 +1,9 @@
--- `manifest_payload::clear_part` meets its contract: a part of the buffer comes back as zeros.
+-- `octets::clear_part` meets its contract: a part of the buffer comes back as zeros.
 -- Assumes nothing.
-use Rattle.confirm.specs.entries.Laid.{cleared}
+use Rattle.octets.specs.Parts.{cleared}
 use borrow.Author.Needs.{needs}
-use Rattle.confirm.proofs.payload.clear_part.Statement.{statement}
-use Rattle.confirm.proofs.payload.clear_part.Tie as tie
+use Rattle.octets.proofs.clear_part.Statement.{statement}
+use Rattle.octets.proofs.clear_part.Tie as tie
 
 returns : tie.Need-returns
 returns c =
