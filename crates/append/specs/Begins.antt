@@ -106,7 +106,8 @@ module _ (f old offsets : List ℕ) (n offset end id count : ℕ) (f-is : take n
       let marks : List ℕ = retired (m .found .before) (states (m .found)) ids in
       let ml : length (retired (m .found .before) (states (m .found)) ids) ≡ count = retired-length (m .found .before) (states (m .found)) ids ∙ m .count-is in
       let o : opened f ≡ some (m .found) = m .opens in
-      let kl : length (keptLinks (opened f)) ≡ count + 1 = ap (λ (o : Option (Found Link)). length (keptLinks o)) o ∙ length-append (m .found .before) (m .found .link ∷ []) ∙ ap (λ (k : ℕ). k + 1) (m .count-is) in
+      let kl : length (keptLinks (opened f)) ≡ count + 1 = ap (λ (o : Option (Found Link)). length (keptLinks o)) o ∙ length-append (m .found .before) (m .found .link ∷ [])
+      ∙ ap (λ (k : ℕ). k + 1) (m .count-is) in
       let c : newCount (opened f) bs ≡ length (retired (m .found .before) (states (m .found)) ids) + (1 + length bs) = ap (λ (k : ℕ). k + length bs) kl ∙ omega arith in
       let z : 1 + length bs ≤ 1024 - count = omega arith in
       ap (take (newCount (opened f) bs)) (e ∙ ap (λ (w : Option (Found Link)). retired (oldLinks w) (oldStates w) ids ++ replicate (1024 - count) 0) o)

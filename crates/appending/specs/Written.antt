@@ -53,7 +53,8 @@ pub bodies-held : (batch : List ℕ) → batchHeld batch ≡ true → All BodyHe
 unfolding batchHeld bodiesOf
 bodies-held batch e =
     let lines =
-    and-split (leb lineSize (length batch) && leb (length batch) maxBatch && leb (bodyCount batch) maxBodies && allZero (take 12 (drop 4 batch)) && leb (bodiesAt (bodyCount batch)) (length batch)) _ e in
+    and-split (leb lineSize (length batch) && leb (length batch) maxBatch && leb (bodyCount batch) maxBodies && allZero (take 12 (drop 4 batch)) && leb (bodiesAt (bodyCount batch))
+    (length batch)) _ e in
     lines-bodies (bodyCount batch) (bodiesAt (bodyCount batch)) (drop lineSize batch) (length batch) batch (lines .1)
 
 -- ---- the bodies as links

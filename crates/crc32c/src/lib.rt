@@ -1,6 +1,6 @@
-// CRC32C of a slice, in four lanes of eight bytes.
-// No table stands here. Eight steps with a polynomial that is known are a loop that the compiler replaces by a look-up in a table of
-// 256 numbers, which it lays down once among the program's constants. A constant array of the source would be copied at each call.
+// CRC32C of a slice, in four lanes of eight bytes. No table stands here. Eight steps with a polynomial that is known
+// are a loop that the compiler replaces by a look-up in a table of 256 numbers, which it lays down once among the
+// program's constants. A constant array of the source would be copied at each call.
 ghost use mathlib.Core.Path.{_≡_};
 ghost use Prim.Native.Nat.{_+_, _<_, _≤_};
 ghost use lib.ListN.{length, drop};
@@ -16,9 +16,10 @@ struct Stepped {
     added: u64,
 }
 
-// The register after k steps with a polynomial. Two things are here only so that the compiler still knows the loop as one for a table where
-// it learns the polynomial, which is at the call. `added`, which no caller reads, keeps the choice between the two registers as it is written;
-// and k, which is 8 at most calls and 16 at one, keeps the loop from being unrolled before.
+// The register after k steps with a polynomial. Two things are here only so that the compiler still knows the loop as
+// one for a table where it learns the polynomial, which is at the call. `added`, which no caller reads, keeps the
+// choice between the two registers as it is written; and k, which is 8 at most calls and 16 at one, keeps the loop
+// from being unrolled before.
 fn steps(p: u64, k: usize, x: u64) -> Stepped
     ensures { λ r. ⌜ r .register ≡ bits p k x ⌝ }
 {
@@ -38,9 +39,9 @@ fn steps(p: u64, k: usize, x: u64) -> Stepped
 }
 
 // What stands for a word of eight bytes four words on: each byte times the factor for its place, and the sum of the
-// products. They are not reduced, so the sum has up to 39 bits. The next word takes them in.
-// There are two such functions, and not one that is handed its eight factors: for that one the compiler, which does not know
-// the factors where it looks for such loops, lays down no table, and the checksum takes eleven times as long.
+// products. They are not reduced, so the sum has up to 39 bits. The next word takes them in. There are two such
+// functions, and not one that is handed its eight factors: for that one the compiler, which does not know the factors
+// where it looks for such loops, lays down no table, and the checksum takes eleven times as long.
 fn four_words_on(x: u64) -> u64
     ensures { λ r. ⌜ Ahead 256 x r ⌝ }
 {
@@ -98,8 +99,9 @@ fn word_at(s: &[u8], at: usize) -> u64
     a + 256 * (b + 256 * (c + 256 * (d + 256 * (e + 256 * (f + 256 * (g + 256 * h))))))
 }
 
-// The register after all that stands in a slice from a place on. A word is taken on as it is where another follows it. The last one is
-// reduced: six of its bytes are taken on to the last two, and sixteen steps do the rest. The bytes behind it go one by one.
+// The register after all that stands in a slice from a place on. A word is taken on as it is where another follows
+// it. The last one is reduced: six of its bytes are taken on to the last two, and sixteen steps do the rest. The
+// bytes behind it go one by one.
 fn rest(c: u64, s: &[u8], at: usize) -> u64
     requires { ⌜ at ≤ length (now s) ⌝ }
     ensures { λ r. ⌜ r ≡ crcFrom c (drop at (now (s .entry))) ⌝ }
@@ -132,11 +134,12 @@ struct Entered {
     at: usize,
 }
 
-// The register after most of a slice, in four lanes, each of which takes in every fourth word. None waits for another, until the last
-// four words bring them together. What is too short for that is left whole. It is handed back where to go on, and does not go on itself:
-// so `rest` has one caller, and all of it is compiled into one function.
+// The register after most of a slice, in four lanes, each of which takes in every fourth word. None waits for
+// another, until the last four words bring them together. What is too short for that is left whole. It is handed back
+// where to go on, and does not go on itself: so `rest` has one caller, and all of it is compiled into one function.
 fn lanes(c: u64, s: &[u8]) -> Entered
-    ensures { λ r. ⌜ (crcFrom (r .register) (drop (r .at) (now (s .entry))) ≡ crcFrom c (now (s .entry))) × (r .at ≤ length (now (s .entry))) ⌝ }
+    ensures { λ r. ⌜ (crcFrom (r .register) (drop (r .at) (now (s .entry))) ≡ crcFrom c (now (s .entry)))
+        × (r .at ≤ length (now (s .entry))) ⌝ }
 {
     if s.len() < 64 {
         return Entered { register: c, at: 0 };

@@ -1,4 +1,5 @@
-// The published vectors of CRC32C: those of RFC 3720, B.4, and the check value of the usual nine digits. A line for each: its name, and `ok` or `differs`.
+// The published vectors of CRC32C: those of RFC 3720, B.4, and the check value of the usual nine digits. A line for
+// each: its name, and `ok` or `differs`.
 use libc::STDOUT_FILENO;
 
 fn show(name: &[u8], data: &[u8], expected: u32) {

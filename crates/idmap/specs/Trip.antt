@@ -110,7 +110,14 @@ raw-back ids rest one most up w =
     let c : leOf (leBytes 4 n) ≡ n = leOf-leBytes 4 n (omega arith) in
     let l : length ((mapHead 0 0 n ++ rawIds ids) ++ rest) ≡ 7 + 8 * n + length rest =
     length-append (mapHead 0 0 n ++ rawIds ids) rest ∙ ap (λ (m : ℕ). m + length rest) (length-append (mapHead 0 0 n) (rawIds ids) ∙ rw (length-head 0 0 n, length-rawIds ids)) in
-    rw (le-leb 1 n one, le-leb n 4096 most, le-leb 7 (length ((mapHead 0 0 n ++ rawIds ids) ++ rest)) (omega arith), eq-eqb (leOf (leBytes 4 n)) n c, le-leb (7 + 8 * n) (length ((mapHead 0 0 n ++ rawIds ids) ++ rest)) (omega arith))
+    rw (
+      le-leb 1 n one,
+      le-leb n 4096 most,
+      le-leb 7 (length ((mapHead 0 0 n ++ rawIds ids) ++ rest)) (omega arith),
+      eq-eqb (leOf (leBytes 4 n)) n c,
+      le-leb (7 + 8 * n)
+          (length ((mapHead 0 0 n ++ rawIds ids) ++ rest)) (omega arith),
+    )
     (raw-trip (7 + 8 * n) 0 [] ids rest up w)
 
 -- a delta map, and what follows it

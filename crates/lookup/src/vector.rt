@@ -97,11 +97,10 @@ pub fn component(file: &[u8], id: u64, index: u64) -> ComponentRead
     let place = value_place(file, id, index);
     match place {
         ValuePlace::Refused(number) => ComponentRead::Refused(number),
-        ValuePlace::At { at, dtype } => ComponentRead::Value(vec_read::values::component_at(
-            file,
-            at,
-            dtype,
-        )),
+        ValuePlace::At { at, dtype } => {
+            let value = vec_read::values::component_at(file, at, dtype);
+            ComponentRead::Value(value)
+        }
     }
 }
 

@@ -38,5 +38,5 @@ pub const ROOT_END: usize = 32;
 pub const ROOT_ZEROS: usize = 40;
 
 pub const ROOT_CHECKSUM: usize = 4092;
-// The longest payload: that of a manifest with limits::MAX_ENTRIES entries.
+// The longest payload: that of a manifest with answers::limits::MAX_ENTRIES entries.
 pub const MAX_PAYLOAD: usize = 53312;

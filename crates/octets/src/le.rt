@@ -1,4 +1,5 @@
-// Little-endian numbers in a slice of bytes. One loop reads and one writes a number of any width up to eight bytes; the widths cite them.
+// Little-endian numbers in a slice of bytes. One loop reads and one writes a number of any width up to eight bytes;
+// the widths cite them.
 ghost use mathlib.Core.Path.{_≡_};
 ghost use Prim.Native.Nat.{_+_, _≤_, _<_, _^_};
 ghost use lib.ListN.{length};

@@ -7,7 +7,7 @@ ghost use Rattle.segment.specs.Chained.{chain, offsetsOf};
 ghost use Rattle.segment.specs.index.Offsets.{most};
 use crate::Step;
 
-// How many links can matter: a manifest has at most limits::MAX_ENTRIES before it.
+// How many links can matter: a manifest has at most answers::limits::MAX_ENTRIES before it.
 pub const MOST: usize = answers::limits::MAX_ENTRIES + 1;
 
 // The offsets of the first links, at most MOST, at the front of a list; and how many they are.

@@ -68,8 +68,9 @@ fn read_rest(s: &[u8], at: usize, first: u64) -> Varint
     Varint::Refused(5)
 }
 
-// The varint at the front of a slice; more bytes may follow. It goes the way of `read_at` itself: with two callers the loop of
-// `read_rest` stays a function of its own, and the short way of a one-byte varint is compiled into the loops that read many.
+// The varint at the front of a slice; more bytes may follow. It goes the way of `read_at` itself: with two callers
+// the loop of `read_rest` stays a function of its own, and the short way of a one-byte varint is compiled into the
+// loops that read many.
 pub fn read(s: &[u8]) -> Varint
     ensures { λ r. ⌜ r ≡ readVarint (now (s .entry)) ⌝ }
 {

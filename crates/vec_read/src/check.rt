@@ -9,7 +9,8 @@ use crate::block::Block;
 // The blocks of a payload whose directory is good, from start on; each is handed over as the part of the payload from
 // its place.
 fn check_blocks(s: &[u8], blocks: usize, start: usize, scratch: &mut [u64]) -> u32
-    requires { ⌜ (4 + 12 * blocks ≤ length (now s)) × ((start ≤ length (now s)) × (maxVectors ≤ length (now scratch))) ⌝ }
+    requires { ⌜ (4 + 12 * blocks ≤ length (now s)) × ((start ≤ length (now s))
+        × (maxVectors ≤ length (now scratch))) ⌝ }
     requires { ⌜ linesBad blocks (drop 4 (now s)) ≡ 0 ⌝ }
     ensures { λ r. ⌜ r ≡ blocksBad blocks start (drop 4 (now (s .entry))) (now (s .entry)) ⌝ }
 {

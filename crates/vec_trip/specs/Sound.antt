@@ -49,8 +49,16 @@ end-sound front c p n e ec sum z =
     let tail : drop (n + 4) ((front ++ c) ++ p) ≡ p = drop-at (front ++ c) p (n + 4) lf in
     let fill : take (round64 (n + 4) - (n + 4)) p ≡ p = take-all (round64 (n + 4) - (n + 4)) p (omega arith) in
     let none : allZero p ≡ true = rw z (zeros-all (round64 (n + 4) - (n + 4))) in
-    rw
-    (le-leb (n + 4) (length ((front ++ c) ++ p)) (omega arith), before, eq-eqb (leOf (take 4 (drop n ((front ++ c) ++ p)))) (crcOf front) read, le-leb (round64 (n + 4)) (length ((front ++ c) ++ p)) (omega arith), tail, fill, none)
+    rw (
+      le-leb (n + 4) (length ((front ++ c) ++ p)) (omega arith),
+      before,
+      eq-eqb (leOf (take 4 (drop n ((front ++ c) ++ p)))) (crcOf front) read,
+      le-leb (round64 (n + 4))
+          (length ((front ++ c) ++ p)) (omega arith),
+      tail,
+      fill,
+      none,
+    )
 
 -- the block of a line, whose map reads back
 block-sound : (l : Line) (ids columns map c p : List ℕ) → columnsLength l ≡ length columns → mapOf (l .count) (map ++ (c ++ p)) ≡ Whole (length map) ids

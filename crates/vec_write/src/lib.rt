@@ -1,4 +1,5 @@
-// The one-block vector writer: 14 for input that breaks a rule, then 9 for a buffer without room; else the payload, and its length.
+// The one-block vector writer: 14 for input that breaks a rule, then 9 for a buffer without room; else the payload,
+// and its length.
 pub mod parts;
 
 ghost use mathlib.Core.Path.{_≡_};
@@ -53,8 +54,12 @@ pub fn write(
     encoding: u64,
     interval: u64,
 ) -> Wrote
-    ensures { λ r. ⌜ r ≡ writeAnswer (vecBad (now (ids .entry)) (now (columns .entry)) dim dtype tier encoding interval) (vecBytes (now (ids .entry)) (now (columns .entry)) dim dtype tier encoding interval) (now (buf .entry)) ⌝ }
-    ensures { λ _. ⌜ now (buf .exit) ≡ writeBuffer (vecBad (now (ids .entry)) (now (columns .entry)) dim dtype tier encoding interval) (vecBytes (now (ids .entry)) (now (columns .entry)) dim dtype tier encoding interval) (now (buf .entry)) ⌝ }
+    ensures { λ r. ⌜ r ≡ writeAnswer (vecBad (now (ids .entry))
+        (now (columns .entry)) dim dtype tier encoding interval)
+        (vecBytes (now (ids .entry)) (now (columns .entry)) dim dtype tier encoding interval) (now (buf .entry)) ⌝ }
+    ensures { λ _. ⌜ now (buf .exit) ≡ writeBuffer (vecBad (now (ids .entry))
+        (now (columns .entry)) dim dtype tier encoding interval)
+        (vecBytes (now (ids .entry)) (now (columns .entry)) dim dtype tier encoding interval) (now (buf .entry)) ⌝ }
 {
     let bad = refusal(ids, columns, dim, dtype, tier, encoding, interval);
     if bad != 0 {

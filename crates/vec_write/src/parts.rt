@@ -35,7 +35,8 @@ pub fn put_block(
     requires { ⌜ mapBad (now ids) encoding interval ≡ 0 ⌝ }
     requires { ⌜ end ≡ length (now columns) + length (mapBytes (now ids) encoding interval) ⌝ }
     requires { ⌜ round64 (end + 4) ≤ length (now buf) ⌝ }
-    ensures { λ _. ⌜ now (buf .exit) ≡ over (now (buf .entry)) 0 (blockBytes (now (columns .entry)) (mapBytes (now (ids .entry)) encoding interval) ++ padding (end + 4)) ⌝ }
+    ensures { λ _. ⌜ now (buf .exit) ≡ over (now (buf .entry)) 0
+        (blockBytes (now (columns .entry)) (mapBytes (now (ids .entry)) encoding interval) ++ padding (end + 4)) ⌝ }
 {
     let summed = end + 4;
     let filled = octets::round_up(summed);

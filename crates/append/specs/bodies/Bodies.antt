@@ -130,11 +130,13 @@ module _ (bs : List Body) (start id ts kept : ℕ) (buf₀ buf os₀ os : List �
       let bl = bytes-long in
       let at-eq : start + (at - start) ≡ at = omega arith in
       let bytes : bodyBytes id ts (take (j + 1) bs) ≡ bodyBytes id ts (take j bs) ++ seg =
-      ap (bodyBytes id ts) more ∙ bytes-more id ts (take j bs) b ∙ ap (λ (i : ℕ). bodyBytes id ts (take j bs) ++ segment (b .kind) (b .flags) (id + i) ts (b .payload)) taken ∙ ap (λ (s : List ℕ). bodyBytes id ts (take j bs) ++ s) (sym e) in
+      ap (bodyBytes id ts) more ∙ bytes-more id ts (take j bs) b ∙ ap (λ (i : ℕ). bodyBytes id ts (take j bs) ++ segment (b .kind) (b .flags) (id + i) ts (b .payload)) taken
+      ∙ ap (λ (s : List ℕ). bodyBytes id ts (take j bs) ++ s) (sym e) in
       let two : over buf (start + (at - start)) seg ≡ over buf₀ start (bodyBytes id ts (take j bs) ++ seg) =
       over-then buf₀ buf start (bodyBytes id ts (take j bs)) seg (at - start) (st .laid) bl (omega (arith, st .same-length)) in
       let laid : buf′ ≡ over buf₀ start (bodyBytes id ts (take (j + 1) bs)) = p ∙ ap (λ (n : ℕ). over buf n seg) (sym at-eq) ∙ two ∙ ap (over buf₀ start) (sym bytes) in
-      let ol : length (offsetsOf (bodyLinks start id ts (take j bs))) ≡ j = length-map (bodyLinks start id ts (take j bs)) (λ (l : Link). l .offset) ∙ bodyLinks-length start id ts (take j bs) ∙ taken in
+      let ol : length (offsetsOf (bodyLinks start id ts (take j bs))) ≡ j = length-map (bodyLinks start id ts (take j bs)) (λ (l : Link). l .offset)
+      ∙ bodyLinks-length start id ts (take j bs) ∙ taken in
       let stored : set os (kept + j) at ≡ over os₀ kept (offsetsOf (bodyLinks start id ts (take (j + 1) bs))) =
       over-turn os₀ os kept (offsetsOf (bodyLinks start id ts (take j bs))) j at (st .stored) ol (omega arith)
       ∙ ap (λ (n : ℕ). over os₀ kept (offsetsOf (bodyLinks start id ts (take j bs)) ++ (n ∷ []))) (sym (st .at-is))

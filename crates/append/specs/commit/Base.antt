@@ -86,9 +86,12 @@ module _ (g offsets : List ℕ) (begin kept-count : ℕ) (first : Bool) (last-id
         let xs = offsetsOf (bodyLinks begin (nextId o) ts bs) in
         let n : length (offsetsOf (bodyLinks begin (nextId o) ts bs)) ≡ length bs = length-map (bodyLinks begin (nextId o) ts bs) (λ (l : Link). l .offset) ∙ bodyLinks-length begin (nextId o) ts bs in
         let k : length (take kept-count offsets) ≡ kept-count = length-take-le kept-count offsets (omega arith) in
-        let p : length (take kept-count offsets ++ offsetsOf (bodyLinks begin (nextId o) ts bs)) ≡ kept-count + length bs = length-append (take kept-count offsets) (offsetsOf (bodyLinks begin (nextId o) ts bs)) ∙ ap₂ _+_ k n in
-        ap (take (kept-count + length bs)) (stored ∙ sym (append-assoc (take kept-count offsets) (offsetsOf (bodyLinks begin (nextId o) ts bs)) (drop (kept-count + length (offsetsOf (bodyLinks begin (nextId o) ts bs))) offsets)))
-        ∙ take-at (take kept-count offsets ++ offsetsOf (bodyLinks begin (nextId o) ts bs)) (drop (kept-count + length (offsetsOf (bodyLinks begin (nextId o) ts bs))) offsets) (kept-count + length bs) p
+        let p : length (take kept-count offsets ++ offsetsOf (bodyLinks begin (nextId o) ts bs))
+        ≡ kept-count + length bs = length-append (take kept-count offsets) (offsetsOf (bodyLinks begin (nextId o) ts bs)) ∙ ap₂ _+_ k n in
+        ap (take (kept-count + length bs)) (stored ∙ sym (append-assoc (take kept-count offsets) (offsetsOf (bodyLinks begin (nextId o) ts bs))
+        (drop (kept-count + length (offsetsOf (bodyLinks begin (nextId o) ts bs))) offsets)))
+        ∙ take-at (take kept-count offsets ++ offsetsOf (bodyLinks begin (nextId o) ts bs)) (drop (kept-count + length (offsetsOf (bodyLinks begin (nextId o) ts bs))) offsets)
+        (kept-count + length bs) p
         ∙ ap (λ (x : List ℕ). x ++ offsetsOf (bodyLinks begin (nextId o) ts bs)) (y .offsets-are)
         ∙ ap (λ (b : ℕ). offsetsOf (keptLinks o) ++ offsetsOf (bodyLinks b (nextId o) ts bs)) (sym (y .start-is))
         ∙ sym (offsets-append (keptLinks o) (bodyLinks (startOf o) (nextId o) ts bs))

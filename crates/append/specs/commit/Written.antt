@@ -52,7 +52,8 @@ unfolding bodiesOf batchHeld
 bodies-most batch start e h =
     let q = held-bounds batch e in
     let lines =
-    and-split (leb lineSize (length batch) && leb (length batch) maxBatch && leb (bodyCount batch) maxBodies && allZero (take 12 (drop 4 batch)) && leb (bodiesAt (bodyCount batch)) (length batch)) _ e in
+    and-split (leb lineSize (length batch) && leb (length batch) maxBatch && leb (bodyCount batch) maxBodies && allZero (take 12 (drop 4 batch)) && leb (bodiesAt (bodyCount batch))
+    (length batch)) _ e in
     let s = lines-small (bodyCount batch) (bodiesAt (bodyCount batch)) (drop lineSize batch) (length batch) batch start (lines .1) in
     omega arith
 
@@ -116,10 +117,12 @@ module _ (old offsets batch : List ℕ) (begin kept-count : ℕ) (first : Bool) 
       let c : kept-count + m ≡ newCount o bs = count-number o bs begin kept-count m next (y .start-is) (y .count-is) m-length next-is in
       let d : id ≡ manifestId o bs = i ∙ id-number o bs begin kept-count m next (y .start-is) (y .count-is) m-length next-is in
       let e : at ≡ manifestAt o bs = at-number o bs begin kept-count m next (y .start-is) (y .count-is) m-length next-is at at-is in
-      let p : payloadAt (take at buf) (take (kept-count + m) os) (take (kept-count + m) states) at id ≡ manifestPayload (newLinks o bs ts) (take (newCount o bs) states) (manifestAt o bs) (manifestId o bs) =
+      let p : payloadAt (take at buf) (take (kept-count + m) os) (take (kept-count + m) states) at id
+      ≡ manifestPayload (newLinks o bs ts) (take (newCount o bs) states) (manifestAt o bs) (manifestId o bs) =
       ap (λ (z : List ℕ). payloadAt z (take (kept-count + m) os) (take (kept-count + m) states) at id) front-is
       ∙ ap (λ (z : List ℕ). payloadAt (take begin old ++ bodyBytes (nextId o) ts bs) z (take (kept-count + m) states) at id) count-is
-      ∙ new-payload (take begin old) offsets begin kept-count first last-id y bs (bodies-held batch held) ts ts-fits fit small os stored-next (omega (arith, m-length)) bf (take (kept-count + m) states) at id
+      ∙ new-payload (take begin old) offsets begin kept-count first last-id y bs (bodies-held batch held) ts ts-fits fit small os stored-next (omega (arith, m-length)) bf
+      (take (kept-count + m) states) at id
       ∙ ap (λ (k : ℕ). manifestPayload (newLinks o bs ts) (take k states) at id) c
       ∙ ap (λ (k : ℕ). manifestPayload (newLinks o bs ts) (take (newCount o bs) states) k id) e
       ∙ ap (manifestPayload (newLinks o bs ts) (take (newCount o bs) states) (manifestAt o bs)) d in

@@ -79,7 +79,8 @@ module _ (old new₁ new₂ first second ids : List ℕ) (ts : ℕ) (t : ts < 2 
     reported m e = demand3 empty run .claim .last m e (Accepted vs₂) refl
 
   -- as the function has it: two answers, by cases
-  module _ (r₁ r₂ : Appended) (end₁ id₁ count₁ end₂ id₂ count₂ : ℕ) (e₁ : r₁ ≡ aps.At end₁ id₁ count₁) (e₂ : r₂ ≡ aps.At end₂ id₂ count₂) (a₁ : Appends old 0 first [] ts (appendedAnswer r₁) new₁) (a₂ : Appends new₁ end₁ second ids ts (appendedAnswer r₂) new₂) where
+  module _ (r₁ r₂ : Appended) (end₁ id₁ count₁ end₂ id₂ count₂ : ℕ) (e₁ : r₁ ≡ aps.At end₁ id₁ count₁) (e₂ : r₂ ≡ aps.At end₂ id₂ count₂)
+      (a₁ : Appends old 0 first [] ts (appendedAnswer r₁) new₁) (a₂ : Appends new₁ end₁ second ids ts (appendedAnswer r₂) new₂) where
     one : Appends old 0 first [] ts (Accepted (end₁ ∷ id₁ ∷ count₁ ∷ [])) new₁
     unfolding appendedAnswer
     one = subst (λ (r : Appended). Appends old 0 first [] ts (appendedAnswer r) new₁) e₁ a₁
@@ -121,7 +122,8 @@ module _ (old new₁ new₂ first second ids : List ℕ) (ts : ℕ) (t : ts < 2 
     unfolding openAnswer
     answered o e m h = ap openedAnswer (sym e) ∙ opens (end₁ ∷ id₁ ∷ count₁ ∷ []) (end₂ ∷ id₂ ∷ count₂ ∷ []) one two m h
 
-    pub way-at : (offset end id count tried : ℕ) → openedCase (take end₂ new₂) ≡ ops.At offset end id count tried → TwicePromise old first second ids ts (tws.At offset end id count) × (new₂ ≡ twiceBuffer old first second ids ts)
+    pub way-at : (offset end id count tried : ℕ) → openedCase (take end₂ new₂) ≡ ops.At offset end id count tried
+        → TwicePromise old first second ids ts (tws.At offset end id count) × (new₂ ≡ twiceBuffer old first second ids ts)
     unfolding TwicePromise openedAnswer
     way-at offset end id count tried e =
         let m = model-manifest first second ids ts in

@@ -1,4 +1,4 @@
--- `manifest_confirm::confirm_with` meets its contract, by its ways out.
+-- `confirm::confirm_with` meets its contract, by its ways out.
 -- Assumes nothing.
 use Prim.Native.Nat.{_≤_}
 use mathlib.Core.Path.{_≡_, sym, ap, _∙_}

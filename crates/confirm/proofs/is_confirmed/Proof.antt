@@ -1,4 +1,4 @@
--- `manifest_confirm::is_confirmed` meets its contract: cheap tests, then the payload written anew.
+-- `confirm::is_confirmed` meets its contract: cheap tests, then the payload written anew.
 -- Assumes nothing.
 use Prim.Native.Nat.{ℕ, _+_, _*_, _≤_, _<_}
 use mathlib.Core.Path.{_≡_, sym, ap, _∙_}

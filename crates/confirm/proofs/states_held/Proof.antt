@@ -1,4 +1,4 @@
--- `manifest_confirm::states_held` meets its contract, by where its loop stands.
+-- `confirm::states_held` meets its contract, by where its loop stands.
 -- Assumes nothing.
 use Prim.Native.Nat.{_-_}
 use mathlib.Core.Path.{sym, _∙_}

@@ -123,7 +123,8 @@ module _ (buf : List ℕ) (c offset id : ℕ) (room : 4096 ≤ length buf) where
       let q₇ : b₇ ≡ over buf 0 x₇ = p₇ ∙ over-then buf b₆ 0 x₆ (leBytes 8 end) 32 q₆ (simp (length-append, length-leBytes)) (omega arith) in
       let q₈ : b₈ ≡ over buf 0 (x₇ ++ replicate (4092 - 40) 0) =
       p₈ ∙ over-then buf b₇ 0 x₇ (replicate (4092 - 40) 0) 40 q₇ (simp (length-append, length-leBytes)) (omega arith) in
-      q₈ ∙ rw (el, ee) (ap (over buf 0) (in-line name (leBytes 2 1) (leBytes 2 c) (leBytes 8 offset) (leBytes 8 id) (leBytes 8 (entriesEnd c)) (leBytes 8 (offset + 64 + round64 (payloadLength c))) (replicate (4092 - 40) 0)))
+      q₈ ∙ rw (el, ee) (ap (over buf 0) (in-line name (leBytes 2 1) (leBytes 2 c) (leBytes 8 offset) (leBytes 8 id) (leBytes 8 (entriesEnd c))
+      (leBytes 8 (offset + 64 + round64 (payloadLength c))) (replicate (4092 - 40) 0)))
 
   pub root-laid : (b₈ b₉ : List ℕ) (crc : ℕ) → b₈ ≡ over buf 0 (rootBytes c offset id) → crc ≡ crcOf (take 4092 b₈) → b₉ ≡ over b₈ 4092 (leBytes 4 crc)
       → b₉ ≡ over buf 0 (root c offset id)

@@ -105,7 +105,8 @@ module _ (buf₀ buf ids : List ℕ) (r start i left prev place pos : ℕ) (st :
   offs-room : place + length (restartOf left (pos - start)) ≤ start
   offs-room =
       let e = ap length (ap (λ (l : List ℕ). st .offs ++ l) (sym (restarts-cons r left prev (pos - start) i ids h)) ∙ st .offs-all) in
-      let f = length-append (st .offs) (restartOf left (pos - start) ++ restarts r (leftAfter r left) (getD ids i 0) (pos - start + length (varintOf (deltaOf left prev (getD ids i 0)))) (drop (i + 1) ids)) in
+      let f = length-append (st .offs) (restartOf left (pos - start) ++ restarts r (leftAfter r left) (getD ids i 0) (pos - start + length (varintOf (deltaOf left prev (getD ids i 0))))
+      (drop (i + 1) ids)) in
       let g = length-append (restartOf left (pos - start)) (restarts r (leftAfter r left) (getD ids i 0) (pos - start + length (varintOf (deltaOf left prev (getD ids i 0)))) (drop (i + 1) ids)) in
       let p = st .place-is in
       omega arith

@@ -1,4 +1,4 @@
--- `list_file::list` meets its contract: the text is put together first, then copied where there is room.
+-- `listing::list` meets its contract: the text is put together first, then copied where there is room.
 -- Assumes nothing.
 use Prim.Native.Nat.{ℕ, _≤_}
 use mathlib.Core.Path.{sym, subst}

@@ -105,9 +105,12 @@ segment-link : (f : List ℕ) (p i id : ℕ) (l : Link) → Numbered f p i l →
 unfolding segmentHitAt hitInSegment
 segment-link f p i id l m =
     ap (λ (n : ℕ). segmentHitAt f p n id) (sym (m .length-is))
-    ∙ ap (λ (x : List ℕ). cond (wholeAt f p (length (l .payload))) (cond (eqb (checkOf x) 0) (placedIn (p + 64) (length (l .payload)) (findIn x id)) (Refused (checkOf x))) (Refused 4)) (sym (m .payload-is))
-    ∙ ap (λ (w : Bool). cond w (cond (eqb (checkOf (l .payload)) 0) (placedIn (p + 64) (length (l .payload)) (findIn (l .payload) id)) (Refused (checkOf (l .payload)))) (Refused 4)) (sym (m .whole-is))
-    ∙ ap (λ (q : ℕ). cond (whole l) (cond (eqb (checkOf (l .payload)) 0) (placedIn (q + 64) (length (l .payload)) (findIn (l .payload) id)) (Refused (checkOf (l .payload)))) (Refused 4)) (sym (m .offset-is))
+    ∙ ap (λ (x : List ℕ). cond (wholeAt f p (length (l .payload))) (cond (eqb (checkOf x) 0) (placedIn (p + 64) (length (l .payload)) (findIn x id)) (Refused (checkOf x))) (Refused 4))
+    (sym (m .payload-is))
+    ∙ ap (λ (w : Bool). cond w (cond (eqb (checkOf (l .payload)) 0) (placedIn (p + 64) (length (l .payload)) (findIn (l .payload) id)) (Refused (checkOf (l .payload)))) (Refused 4))
+    (sym (m .whole-is))
+    ∙ ap (λ (q : ℕ). cond (whole l) (cond (eqb (checkOf (l .payload)) 0) (placedIn (q + 64) (length (l .payload)) (findIn (l .payload) id)) (Refused (checkOf (l .payload)))) (Refused 4))
+    (sym (m .offset-is))
     ∙ same-hit l (whole l) (eqb (checkOf (l .payload)) 0) (checkOf (l .payload)) (findIn (l .payload) id)
 
 -- ---- where the search stands: entries from i on are passed

@@ -89,7 +89,8 @@ module _ (f : List ℕ) (id offset count : ℕ) (m : ManifestAt f offset count) 
         find-whole t =
             let o : linkNo f i .offset ≡ getD offsets i 0 = a .numbered .offset-is in
             let k : length (linkNo f i .payload) ≡ n = a .numbered .length-is ∙ sym n-is in
-            sym (ap placeOf (here ∙ ap (λ b. cond b (Handed (linkNo f i .offset + 64) (linkNo f i .payload)) (NotHanded 4)) (whole-is ∙ t)) ∙ ap (λ (y : ℕ). At (y + 64) (length (linkNo f i .payload))) o ∙ ap (At (getD offsets i 0 + 64)) k)
+            sym (ap placeOf (here ∙ ap (λ b. cond b (Handed (linkNo f i .offset + 64) (linkNo f i .payload)) (NotHanded 4)) (whole-is ∙ t))
+            ∙ ap (λ (y : ℕ). At (y + 64) (length (linkNo f i .payload))) o ∙ ap (At (getD offsets i 0 + 64)) k)
 
 -- ---- what opening refuses
 

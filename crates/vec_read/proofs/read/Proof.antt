@@ -1,4 +1,4 @@
--- `vec_get::read` meets its contract, by its ways out.
+-- `vec_read::read` meets its contract, by its ways out.
 -- Assumes nothing.
 use mathlib.Core.Path.{_≡_, sym, _∙_}
 use native.Mathlib.Omega.{arith}

@@ -1,4 +1,4 @@
--- `append_write::bodies_end` meets its contract, by where the loop over the bodies stands.
+-- `append::bodies::bodies_end` meets its contract, by where the loop over the bodies stands.
 -- Assumes nothing.
 use lib.ListN.{length}
 use Rattle.batch.specs.Lines.{BodyAt, noBody, bodies-count, count-is, held-bounds, body-at}

@@ -1,4 +1,4 @@
--- `append_write::put_bodies` meets its contract, by where the loop over the bodies stands.
+-- `append::bodies::put_bodies` meets its contract, by where the loop over the bodies stands.
 -- Assumes nothing.
 use Prim.Native.Nat.{_+_, _-_, _*_, _≤_, _<_}
 use mathlib.Core.Path.{_≡_, refl, ap, _∙_}

@@ -1,4 +1,4 @@
--- `commit::commit` meets its contract: its tests in order, then what is written.
+-- `append::commit::commit` meets its contract: its tests in order, then what is written.
 -- Assumes nothing.
 use Prim.Native.Nat.{ℕ, _+_, _-_, _*_, _^_, _≤_, _<_}
 use mathlib.Core.Path.{_≡_, refl, sym, ap, _∙_}

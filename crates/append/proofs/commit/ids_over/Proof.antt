@@ -1,4 +1,4 @@
--- `commit::ids_over` meets its contract.
+-- `append::commit::ids_over` meets its contract.
 -- Assumes nothing.
 use native.Mathlib.Omega.{arith}
 use Rattle.append.specs.commit.Commit.{over-first, over-later}

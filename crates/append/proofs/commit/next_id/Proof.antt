@@ -1,4 +1,4 @@
--- `commit::next_id` meets its contract.
+-- `append::commit::next_id` meets its contract.
 -- Assumes nothing.
 use native.Mathlib.Omega.{arith}
 use Rattle.append.specs.commit.Commit.{next-first, next-later}

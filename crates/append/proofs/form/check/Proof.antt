@@ -1,4 +1,4 @@
--- `batch_check::check` meets its contract: by the ways out of the tests on a batch's head, and by where its loop over the lines stands.
+-- `append::form::check` meets its contract: by the ways out of the tests on a batch's head, and by where its loop over the lines stands.
 -- Assumes nothing.
 use Prim.Native.Nat.{_-_}
 use mathlib.Core.Path.{sym, _∙_}

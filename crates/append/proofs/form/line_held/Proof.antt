@@ -1,4 +1,4 @@
--- `batch_check::line_held` meets its contract: each test that fails decides, and where all hold the last one does.
+-- `append::form::line_held` meets its contract: each test that fails decides, and where all hold the last one does.
 -- Assumes nothing.
 use mathlib.Core.Path.{sym, ap, _∙_}
 use borrow.Author.Tests.{not-true, not-false}

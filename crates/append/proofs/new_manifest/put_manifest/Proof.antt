@@ -1,4 +1,4 @@
--- `append_manifest::put_manifest` meets its contract.
+-- `append::new_manifest::put_manifest` meets its contract.
 -- Assumes nothing.
 use Prim.Native.Nat.{_-_}
 use mathlib.Core.Path.{_≡_, sym, ap, _∙_}

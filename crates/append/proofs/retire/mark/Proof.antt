@@ -1,4 +1,4 @@
--- `retire::mark` meets its contract, by where its loop stands. Where it answers false, what it says of the states is said of nothing.
+-- `append::retire::mark` meets its contract, by where its loop stands. Where it answers false, what it says of the states is said of nothing.
 -- Assumes nothing.
 use Prim.Native.Nat.{_-_, _<_}
 use mathlib.Core.Path.{sym, _∙_}

@@ -1,4 +1,4 @@
--- `batch_vectors::body_bad` meets its contract, by what a batch that has the form says of a body.
+-- `append::vectors::body_bad` meets its contract, by what a batch that has the form says of a body.
 -- Assumes nothing.
 use Rattle.batch.specs.Lines.{BodyAt, body-at}
 use native.Mathlib.Omega.{arith}

@@ -1,4 +1,4 @@
--- `batch_vectors::vectors_bad` meets its contract, by where its loop over the bodies stands.
+-- `append::vectors::vectors_bad` meets its contract, by where its loop over the bodies stands.
 -- Assumes nothing.
 use Prim.Native.Nat.{_-_}
 use mathlib.Core.Path.{sym, _∙_}

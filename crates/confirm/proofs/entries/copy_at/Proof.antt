@@ -1,4 +1,4 @@
--- `manifest_write::copy_at` meets its contract: a part of the buffer comes back with a part of the file at its front.
+-- `confirm::entries::copy_at` meets its contract: a part of the buffer comes back with a part of the file at its front.
 -- Assumes nothing.
 use Rattle.confirm.specs.entries.Laid.{copied}
 use borrow.Author.Needs.{needs}

@@ -1,4 +1,4 @@
--- `manifest_write::put_byte` meets its contract.
+-- `confirm::entries::put_byte` meets its contract.
 -- Assumes nothing.
 use Rattle.confirm.specs.entries.Laid.{stored}
 use borrow.Author.Needs.{needs}

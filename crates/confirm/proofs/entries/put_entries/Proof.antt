@@ -1,4 +1,4 @@
--- `manifest_write::put_entries` meets its contract, by where its loop stands.
+-- `confirm::entries::put_entries` meets its contract, by where its loop stands.
 -- Assumes nothing.
 use Prim.Native.Nat.{_-_}
 use native.Mathlib.Omega.{arith}

@@ -1,4 +1,4 @@
--- `manifest_write::put_entry` meets its contract, field by field.
+-- `confirm::entries::put_entry` meets its contract, field by field.
 -- Assumes nothing.
 use Rattle.confirm.specs.entries.Laid.{entry-laid}
 use borrow.Author.Needs.{needs}

@@ -1,4 +1,4 @@
--- `manifest_check::read_states` meets its contract, by where its loop stands.
+-- `confirm::states::read_states` meets its contract, by where its loop stands.
 -- Assumes nothing.
 use Prim.Native.Nat.{_-_}
 use native.Mathlib.Omega.{arith}

@@ -1,4 +1,4 @@
--- `manifest_check::state_held` meets its contract.
+-- `confirm::states::state_held` meets its contract.
 -- Assumes nothing.
 use borrow.Author.Tests.{eq-eqb, ne-eqb}
 use Rattle.confirm.specs.states.At.{stateOf}

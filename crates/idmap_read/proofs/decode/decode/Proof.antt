@@ -1,4 +1,4 @@
--- `idmap_decode::decode` meets its contract, by the map's head.
+-- `idmap_read::decode::decode` meets its contract, by the map's head.
 -- Assumes nothing.
 use mathlib.Core.Path.{_≡_, sym, _∙_}
 use native.Mathlib.Omega.{arith}

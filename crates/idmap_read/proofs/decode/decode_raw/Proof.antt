@@ -1,4 +1,4 @@
--- `idmap_decode::decode_raw` meets its contract, by where its loop stands.
+-- `idmap_read::decode::decode_raw` meets its contract, by where its loop stands.
 -- Assumes nothing.
 use Prim.Native.Nat.{_-_}
 use mathlib.Core.Path.{_≡_, refl, sym, _∙_}

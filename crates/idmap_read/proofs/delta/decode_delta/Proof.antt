@@ -1,4 +1,4 @@
--- `idmap_delta::decode_delta` meets its contract, by where its loop stands.
+-- `idmap_read::delta::decode_delta` meets its contract, by where its loop stands.
 -- Assumes nothing.
 use Prim.Native.Nat.{_+_, _-_, _*_, _/_, _≤_}
 use mathlib.Core.Path.{_≡_, refl, sym, _∙_}

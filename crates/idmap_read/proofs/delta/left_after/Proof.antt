@@ -1,4 +1,4 @@
--- `delta::left_after` meets its contract.
+-- `idmap_read::delta::left_after` meets its contract.
 -- Assumes nothing.
 use Prim.Native.Nat.{suc, _-_}
 use mathlib.Core.Path.{_≡_}

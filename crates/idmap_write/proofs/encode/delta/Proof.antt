@@ -1,4 +1,4 @@
--- `idmap_encode::delta` meets its contract.
+-- `idmap_write::encode::delta` meets its contract.
 -- Assumes nothing.
 use Prim.Native.Nat.{suc, _-_}
 use mathlib.Core.Path.{_≡_}

@@ -1,4 +1,4 @@
--- `idmap_encode::deltas_len` meets its contract, by where its loop stands.
+-- `idmap_write::encode::deltas_len` meets its contract, by where its loop stands.
 -- Assumes nothing.
 use Prim.Native.Nat.{_-_}
 use mathlib.Core.Path.{_≡_, sym, ap, _∙_}

@@ -1,4 +1,4 @@
--- `idmap_encode::put_deltas` meets its contract, by where its loop stands.
+-- `idmap_write::encode::put_deltas` meets its contract, by where its loop stands.
 -- Assumes nothing.
 use Prim.Native.Nat.{_-_}
 use mathlib.Core.Path.{_≡_, sym, ap, _∙_}

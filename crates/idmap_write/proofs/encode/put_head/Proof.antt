@@ -1,4 +1,4 @@
--- `idmap_encode::put_head` meets its contract, field by field.
+-- `idmap_write::encode::put_head` meets its contract, field by field.
 -- Assumes nothing.
 use native.Mathlib.Omega.{arith}
 use mathlib.Core.Path.{sym, _∙_}

@@ -1,4 +1,4 @@
--- `idmap_encode::put_raw` meets its contract, by where its loop stands.
+-- `idmap_write::encode::put_raw` meets its contract, by where its loop stands.
 -- Assumes nothing.
 use Prim.Native.Nat.{_-_}
 use native.Mathlib.Omega.{arith}

@@ -1,4 +1,4 @@
--- `idmap_encode::put_restart` meets its contract: an offset where a group begins, else nothing.
+-- `idmap_write::encode::put_restart` meets its contract: an offset where a group begins, else nothing.
 -- Assumes nothing.
 use Prim.Native.Nat.{suc, _-_, _+_}
 use mathlib.Core.Path.{_≡_, refl, sym}

@@ -1,4 +1,4 @@
--- `idmap_refusal::interval_held` meets its contract.
+-- `idmap_write::refusal::interval_held` meets its contract.
 -- Assumes nothing.
 use Rattle.idmap_write.specs.refusal.RefusalLaws.{held-raw, held-delta, held-not}
 use Rattle.idmap_write.proofs.refusal.interval_held.Statement.{statement}

@@ -1,4 +1,4 @@
--- `idmap_refusal::refusal` meets its contract, by its ways out.
+-- `idmap_write::refusal::refusal` meets its contract, by its ways out.
 -- Assumes nothing.
 use mathlib.Core.Path.{_≡_, sym, _∙_}
 use native.Mathlib.Omega.{arith}

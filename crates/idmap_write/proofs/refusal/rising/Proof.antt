@@ -1,4 +1,4 @@
--- `idmap_refusal::rising` meets its contract, by where its loop stands.
+-- `idmap_write::refusal::rising` meets its contract, by where its loop stands.
 -- Assumes nothing.
 use Prim.Native.Nat.{_-_}
 use mathlib.Core.Path.{_≡_, sym, _∙_}

@@ -1,4 +1,4 @@
--- `list_entries::put_entries` meets its contract, by how many entries are written.
+-- `listing::entries::put_entries` meets its contract, by how many entries are written.
 -- Assumes nothing.
 use Rattle.opening.specs.Indexed.{EntryAt, entry-at}
 use Prim.Native.Nat.{_-_}

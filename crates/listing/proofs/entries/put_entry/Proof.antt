@@ -1,4 +1,4 @@
--- `list_entries::put_entry` meets its contract: the word for either state.
+-- `listing::entries::put_entry` meets its contract: the word for either state.
 -- Assumes nothing.
 use mathlib.Core.Path.{refl}
 use native.Mathlib.Omega.{arith}

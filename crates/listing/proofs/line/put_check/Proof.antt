@@ -1,4 +1,4 @@
--- `listing::put_check` meets its contract: the word for either case.
+-- `listing::line::put_check` meets its contract: the word for either case.
 -- Assumes nothing.
 use mathlib.Core.Path.{refl}
 use native.Mathlib.Omega.{arith}

@@ -1,4 +1,4 @@
--- `listing::put_columns` meets its contract: two numbers, each with the space behind it.
+-- `listing::line::put_columns` meets its contract: two numbers, each with the space behind it.
 -- Assumes nothing.
 use mathlib.Core.Path.{refl, _∙_}
 use native.Mathlib.Omega.{arith}

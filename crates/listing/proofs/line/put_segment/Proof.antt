@@ -1,4 +1,4 @@
--- `listing::put_segment` meets its contract: the fields are read off the header, and the line's pieces written one behind the other.
+-- `listing::line::put_segment` meets its contract: the fields are read off the header, and the line's pieces written one behind the other.
 -- Assumes nothing.
 use Prim.Native.Nat.{_+_}
 use mathlib.Core.Path.{refl, _∙_}

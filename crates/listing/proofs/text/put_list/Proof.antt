@@ -1,4 +1,4 @@
--- `list_text::put_list` meets its contract: the heading, the entries, the manifest and the last line, one right behind the other.
+-- `listing::text::put_list` meets its contract: the heading, the entries, the manifest and the last line, one right behind the other.
 -- Assumes nothing.
 use Prim.Native.Nat.{_≤_}
 use mathlib.Core.Path.{refl, _∙_}

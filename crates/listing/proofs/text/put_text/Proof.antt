@@ -1,4 +1,4 @@
--- `list_text::put_text` meets its contract: too long for the lister, or by what opening answers.
+-- `listing::text::put_text` meets its contract: too long for the lister, or by what opening answers.
 -- Assumes nothing.
 use mathlib.Core.Path.{refl, sym, _∙_}
 use native.Mathlib.Omega.{arith}

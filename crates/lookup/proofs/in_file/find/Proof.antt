@@ -1,4 +1,4 @@
--- `in_file::find` meets its contract, by what opening answers.
+-- `lookup::in_file::find` meets its contract, by what opening answers.
 -- Assumes nothing.
 use mathlib.Core.Path.{sym, _∙_}
 use native.Mathlib.Omega.{arith}

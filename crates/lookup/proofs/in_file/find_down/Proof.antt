@@ -1,4 +1,4 @@
--- `in_file::find_down` meets its contract, by where the search through the directory stands.
+-- `lookup::in_file::find_down` meets its contract, by where the search through the directory stands.
 -- Assumes nothing.
 use Rattle.opening.specs.Indexed.{EntryAt, entry-at}
 use Prim.Native.Nat.{ℕ, _-_}

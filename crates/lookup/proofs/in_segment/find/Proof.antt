@@ -1,4 +1,4 @@
--- `in_segment::find` meets its contract, by its ways out.
+-- `lookup::in_segment::find` meets its contract, by its ways out.
 -- Assumes nothing.
 use mathlib.Core.Path.{sym, _∙_}
 use native.Mathlib.Omega.{arith}

@@ -1,4 +1,4 @@
--- `file_payload::number_of` meets its contract.
+-- `lookup::payload::number_of` meets its contract.
 -- Assumes nothing.
 use Rattle.reading.specs.PartLaws.{number-at, number-not}
 use borrow.Author.Needs.{needs}

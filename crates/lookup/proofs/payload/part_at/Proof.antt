@@ -1,4 +1,4 @@
--- `file_payload::part_at` meets its contract.
+-- `lookup::payload::part_at` meets its contract.
 -- Assumes nothing.
 use Prim.Native.Nat.{ℕ}
 use mathlib.Core.Path.{refl, ap}

@@ -1,5 +1,6 @@
--- `file_payload::payload` meets its contract: a walk of its MIR, by hand. Three covered functions are called, for the place, for its number and for its part, and a `HandedPart` is made of the last two's results.
--- A `&[u8]` is Copy, so what it owns is had anew for each call, and once for exit. What a number or a place owns is made anew where it is asked. A place's machine value stays as the call has returned it: no step looks into it.
+-- `lookup::payload::payload` meets its contract: a walk of its MIR, by hand. Three covered functions are called, for the place, for its number and for its part, and
+-- a `HandedPart` is made of the last two's results. A `&[u8]` is Copy, so what it owns is had anew for each call, and once for exit. What a number or a place
+-- owns is made anew where it is asked. A place's machine value stays as the call has returned it: no step looks into it.
 -- Assumes nothing.
 use mathlib.Core.Path.{_≡_, refl, ap, subst, _∙_}
 use Prim.Native.Nat.{ℕ, _<_, _^_}

@@ -1,4 +1,4 @@
--- `place::find_in` meets its contract, by where the search through the directory stands.
+-- `lookup::place::find_in` meets its contract, by where the search through the directory stands.
 -- Assumes nothing.
 use Rattle.opening.specs.Indexed.{EntryAt, entry-at}
 use Prim.Native.Nat.{_-_}

@@ -1,4 +1,4 @@
--- `locate_payload::payload_place` meets its contract, by what opening answers.
+-- `lookup::place::payload_place` meets its contract, by what opening answers.
 -- Assumes nothing.
 use mathlib.Core.Path.{sym, _∙_}
 use native.Mathlib.Omega.{arith}

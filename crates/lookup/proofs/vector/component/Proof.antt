@@ -1,4 +1,4 @@
--- `file_vector::component` meets its contract.
+-- `lookup::vector::component` meets its contract.
 -- Assumes nothing.
 use Rattle.reading.specs.ComponentLaws.{kind-number}
 use Rattle.lookup.specs.vector.Value.{lies-not, value-room-at, component-is, component-not}

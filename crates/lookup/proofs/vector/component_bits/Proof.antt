@@ -1,4 +1,4 @@
--- `file_vector::component_bits` meets its contract.
+-- `lookup::vector::component_bits` meets its contract.
 -- Assumes nothing.
 use native.Mathlib.Omega.{arith}
 use Rattle.lookup.specs.vector.Value.{lies-not, value-room-at, four-wide, bits-float, bits-byte, component-not}

@@ -1,4 +1,4 @@
--- `file_vector::value_place` meets its contract, by what the search has found.
+-- `lookup::vector::value_place` meets its contract, by what the search has found.
 -- Assumes nothing.
 use Prim.Native.Nat.{ℕ, _+_, _*_, _≤_, _<_}
 use lib.ListN.{length}

@@ -1,4 +1,4 @@
--- `file_vector::vector` meets its contract, by what the search has found.
+-- `lookup::vector::vector` meets its contract, by what the search has found.
 -- Assumes nothing.
 use mathlib.Core.Path.{sym, _∙_}
 use native.Mathlib.Omega.{arith}

@@ -1,4 +1,4 @@
--- `le::number_at` meets its contract, by where its loop stands.
+-- `octets::le::number_at` meets its contract, by where its loop stands.
 -- Assumes nothing.
 use Prim.Native.Nat.{_+_, _-_}
 use native.Mathlib.Omega.{arith}

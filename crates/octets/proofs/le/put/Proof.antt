@@ -1,4 +1,4 @@
--- `le::put` meets its contract, by where its loop stands.
+-- `octets::le::put` meets its contract, by where its loop stands.
 -- Assumes nothing.
 use Prim.Native.Nat.{_-_}
 use native.Mathlib.Omega.{arith}

@@ -1,4 +1,4 @@
--- `numbers::follows` meets its contract, by its ways out.
+-- `octets::numbers::follows` meets its contract, by its ways out.
 -- Assumes nothing.
 use Rattle.octets.specs.numbers.NumbersLaws.{above-first, above-next}
 use Rattle.octets.proofs.numbers.follows.Statement.{statement}

@@ -1,4 +1,4 @@
--- `numbers::index_of` meets its contract, by where its loop stands.
+-- `octets::numbers::index_of` meets its contract, by where its loop stands.
 -- Assumes nothing.
 use Prim.Native.Nat.{_-_}
 use mathlib.Core.Path.{_≡_, refl, sym, ap, _∙_}

@@ -1,4 +1,4 @@
--- `text::put_bytes` meets its contract: the part of the buffer comes back with the bytes at its front.
+-- `octets::text::put_bytes` meets its contract: the part of the buffer comes back with the bytes at its front.
 -- Assumes nothing.
 use mathlib.Core.Path.{refl}
 use native.Mathlib.Omega.{arith}

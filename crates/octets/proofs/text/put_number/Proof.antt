@@ -1,4 +1,4 @@
--- `text::put_number` meets its contract: three pieces, one right behind the other.
+-- `octets::text::put_number` meets its contract: three pieces, one right behind the other.
 -- Assumes nothing.
 use native.Mathlib.Omega.{arith}
 use Rattle.octets.specs.text.TextLaws.{decimal-u64}

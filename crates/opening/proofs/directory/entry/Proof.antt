@@ -1,4 +1,4 @@
--- `directory::entry` meets its contract, by its ways out.
+-- `opening::directory::entry` meets its contract, by its ways out.
 -- Assumes nothing.
 use Rattle.opening.specs.Indexed.{ManifestAt, EntryAt, opened-refused, opened-none, opened-at, entry-at}
 use mathlib.Core.Path.{sym, _∙_}

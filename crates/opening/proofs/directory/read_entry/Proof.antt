@@ -1,4 +1,4 @@
--- `directory::read_entry` meets its contract.
+-- `opening::directory::read_entry` meets its contract.
 -- Assumes nothing.
 use Rattle.opening.specs.directory.Entry.{entryAt}
 use borrow.Author.Needs.{needs}

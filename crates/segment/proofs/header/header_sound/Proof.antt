@@ -1,4 +1,4 @@
--- `header::header_sound` meets its contract: each test that fails decides, and where all hold the last one does.
+-- `segment::header::header_sound` meets its contract: each test that fails decides, and where all hold the last one does.
 -- Assumes nothing.
 use mathlib.Core.Path.{sym, ap, _∙_}
 use native.Mathlib.Omega.{arith}

@@ -1,4 +1,4 @@
--- `chain_index::collect` meets its contract, by where its loop stands.
+-- `segment::index::collect` meets its contract, by where its loop stands.
 -- Assumes nothing.
 use Prim.Native.Nat.{_-_}
 use mathlib.Core.Path.{_≡_, refl, sym, _∙_}

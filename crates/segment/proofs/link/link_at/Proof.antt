@@ -1,4 +1,4 @@
--- `link::link_at` meets its contract, by its ways out.
+-- `segment::link::link_at` meets its contract, by its ways out.
 -- Assumes nothing.
 use mathlib.Core.Path.{sym, _∙_}
 use native.Mathlib.Omega.{arith}

@@ -1,4 +1,4 @@
--- `segment_write::header_of` meets its contract: the fields laid over zeros.
+-- `segment::write::header_of` meets its contract: the fields laid over zeros.
 -- Assumes nothing.
 use native.Mathlib.Omega.{arith}
 use lib.ListN.{length-set}

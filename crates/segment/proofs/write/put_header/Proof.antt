@@ -1,4 +1,4 @@
--- `segment_write::put_header` meets its contract.
+-- `segment::write::put_header` meets its contract.
 -- Assumes nothing.
 use borrow.Author.Needs.{needs}
 use Rattle.segment.proofs.write.put_header.Statement.{statement}

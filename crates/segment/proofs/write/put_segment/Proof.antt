@@ -1,4 +1,4 @@
--- `segment_write::put_segment` meets its contract: the header, the payload behind it, and zeros behind that.
+-- `segment::write::put_segment` meets its contract: the header, the payload behind it, and zeros behind that.
 -- Assumes nothing.
 use native.Mathlib.Omega.{arith}
 use lib.ListN.{length, length-take, length-drop}

@@ -1,4 +1,4 @@
--- `varint_write::encoded_len` meets its contract, by where its loop stands.
+-- `varint::write::encoded_len` meets its contract, by where its loop stands.
 -- Assumes nothing.
 use Prim.Native.Nat.{_≤_}
 use native.Mathlib.Omega.{arith}

@@ -1,4 +1,4 @@
--- `varint_write::put` meets its contract, by where its loop stands: the first d bytes of the varint are written.
+-- `varint::write::put` meets its contract, by where its loop stands: the first d bytes of the varint are written.
 -- Assumes nothing.
 use mathlib.Core.Path.{_≡_, refl, sym, _∙_}
 use native.Mathlib.Omega.{arith}

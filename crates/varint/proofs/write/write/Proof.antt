@@ -1,4 +1,4 @@
--- `varint_write::write` meets its contract, by the two ways out of a writer whose input is never bad.
+-- `varint::write::write` meets its contract, by the two ways out of a writer whose input is never bad.
 -- Assumes nothing.
 use mathlib.Core.Path.{refl}
 use native.Mathlib.Omega.{arith}

@@ -1,4 +1,4 @@
--- `vec_block::check_block` meets its contract, by its ways out in the order of document 01.
+-- `vec_read::block::check_block` meets its contract, by its ways out in the order of document 01.
 -- Assumes nothing.
 use Prim.Native.Nat.{_≤_, _+_, _-_, _*_}
 use mathlib.Core.Path.{_≡_, refl, sym, ap, _∙_}

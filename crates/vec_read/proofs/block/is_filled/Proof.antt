@@ -1,4 +1,4 @@
--- `vec_block::is_filled` meets its contract.
+-- `vec_read::block::is_filled` meets its contract.
 -- Assumes nothing.
 use Prim.Native.Nat.{_≤_, _-_}
 use mathlib.Core.Path.{_≡_, refl, sym, _∙_}

@@ -1,4 +1,4 @@
--- `vec_check::check_blocks` meets its contract, by where its loop stands.
+-- `vec_read::check::check_blocks` meets its contract, by where its loop stands.
 -- Assumes nothing.
 use Prim.Native.Nat.{_+_, _-_, _*_, _≤_}
 use mathlib.Core.Path.{_≡_, refl, sym, ap, _∙_}

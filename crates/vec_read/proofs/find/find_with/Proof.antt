@@ -1,4 +1,4 @@
--- `vec_find::find_with` meets its contract, by where its search stands.
+-- `vec_read::find::find_with` meets its contract, by where its search stands.
 -- Assumes nothing.
 use Prim.Native.Nat.{_+_, _-_, _*_, _≤_}
 use mathlib.Core.Path.{_≡_, refl, sym, ap, _∙_}

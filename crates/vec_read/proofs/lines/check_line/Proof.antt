@@ -1,4 +1,4 @@
--- `vec_lines::check_line` meets its contract, by the ways out of a line's check.
+-- `vec_read::lines::check_line` meets its contract, by the ways out of a line's check.
 -- Assumes nothing.
 use Prim.Native.Nat.{_+_}
 use mathlib.Core.Path.{_≡_, refl, sym, ap, _∙_}

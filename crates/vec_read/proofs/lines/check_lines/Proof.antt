@@ -1,4 +1,4 @@
--- `vec_lines::check_lines` meets its contract, by where its loop stands.
+-- `vec_read::lines::check_lines` meets its contract, by where its loop stands.
 -- Assumes nothing.
 use Prim.Native.Nat.{_-_}
 use mathlib.Core.Path.{_≡_, sym, _∙_}

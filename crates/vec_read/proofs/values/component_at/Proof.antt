@@ -1,4 +1,4 @@
--- `vec_read::component_at` meets its contract, by the three kinds.
+-- `vec_read::values::component_at` meets its contract, by the three kinds.
 -- Assumes nothing.
 use Prim.Native.Nat.{_+_, _≤_}
 use mathlib.Core.Path.{_≡_, refl, sym, ap, _∙_}

@@ -1,4 +1,4 @@
--- `vec_read::float_of` meets its contract: a NaN's pattern, and any other.
+-- `vec_read::values::float_of` meets its contract: a NaN's pattern, and any other.
 -- Assumes nothing.
 use mathlib.Core.Path.{_≡_, sym}
 use lib.Ieee.{ofBits, div}

@@ -1,4 +1,4 @@
--- `vec_read::read_vector` meets its contract, by where its loop stands.
+-- `vec_read::values::read_vector` meets its contract, by where its loop stands.
 -- Assumes nothing.
 use Prim.Native.Nat.{_+_, _-_, _*_, _≤_, _<_}
 use mathlib.Core.Path.{_≡_, refl, sym, ap, _∙_}

@@ -1,4 +1,4 @@
--- `vec_read::signed_of` meets its contract, by what is computed at each byte.
+-- `vec_read::values::signed_of` meets its contract, by what is computed at each byte.
 -- Assumes nothing.
 use native.Mathlib.Omega.{arith}
 use Rattle.vec_read.specs.values.Bytes.{low-is, less-fits, back-fits, back-is}

@@ -1,4 +1,4 @@
--- `width::width_of` meets its contract.
+-- `vec_read::width::width_of` meets its contract.
 -- Assumes nothing.
 use Rattle.vecseg.specs.LineLaws.{width-f32, width-byte, width-unsigned, width-none}
 use Rattle.vec_read.proofs.width.width_of.Statement.{statement}
