@@ -27,16 +27,17 @@ pub struct Reached {
     pub laws: Vec<String>,
 }
 
-/// The contracts in a source file, of all its functions or of some.
+/// The contracts in a source file, of all its functions or of some: from a clause's first word to the body's brace.
 fn contracts(text: &str, functions: &[&str]) -> Vec<String> {
     let mut found = Vec::new();
-    let mut inside = functions.is_empty();
-    for line in text.lines().filter(|line| !line.starts_with("ghost use") && !line.trim_start().starts_with("//")) {
+    let (mut wanted, mut clause) = (functions.is_empty(), false);
+    for line in text.lines().filter(|line| !line.trim_start().starts_with("//")) {
         if !functions.is_empty() && line.contains("fn ") {
-            inside = functions.iter().any(|name| line.contains(&format!("fn {name}(")) || line.contains(&format!("fn {name}<")));
+            wanted = functions.iter().any(|name| ["(", "<"].iter().any(|end| line.contains(&format!("fn {name}{end}"))));
         }
-        inside &= functions.is_empty() || line != "{";
-        if inside && (line.contains('⌜') || line.contains('≡') || line.contains('⌝')) {
+        let begins = ["requires ", "ensures "].iter().any(|word| line.trim_start().starts_with(word));
+        clause = (clause || begins) && line != "{";
+        if wanted && clause {
             found.push(line.to_string());
         }
     }
