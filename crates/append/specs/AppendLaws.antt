@@ -18,7 +18,7 @@ use Rattle.batch.specs.Form.{batchHeld, bodiesOf}
 use Rattle.appending.specs.Retire.{retireHeld}
 use Rattle.appending.specs.Append.{startOf, oldLinks, oldStates, newCount, newStates, newPayload, newBytes, vectorsBad}
 use Rattle.appending.specs.Append.{checked, isNone, appendChecks, answerOn, appendAnswer, bufferOn, appendBuffer, Appends, appendedAnswer}
-use Rattle.appending.specs.Accepts.{Passed, passed, empty-passes}
+use Rattle.appending.specs.Accepts.{AllPass, passed, empty-passes}
 use Rattle.appending.specs.declared.Appended.{Appended}
 use Rattle.appending.specs.declared.Appended.the-variants.{Refused}
 use Rattle.append.specs.commit.Answer.{batchNumber}
@@ -90,7 +90,7 @@ module _ (old : List ℕ) (n : ℕ) (batch ids : List ℕ) (ts : ℕ) where
 
             -- an accepted one has room for its entries
             at-most : (vs : List ℕ) → commitAnswer (length old) (opened (take n old)) (bodiesOf batch) ≡ Accepted vs → newCount (opened (take n old)) (bodiesOf batch) ≤ maxEntries
-            unfolding commitAnswer commitChecks Passed
+            unfolding commitAnswer commitChecks AllPass
             at-most vs e =
                 ltb-false maxEntries (newCount (opened (take n old)) (bodiesOf batch))
                 (passed (commitChecks (length old) (opened (take n old)) (bodiesOf batch)) _ vs e .0 .0)

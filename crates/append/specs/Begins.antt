@@ -22,14 +22,14 @@ use Rattle.appending.specs.Retire.{retirable, retireHeld, retired}
 use Rattle.appending.specs.Append.{keptLinks, startOf, nextId, oldLinks, oldStates, keptStates, newCount, newStates}
 use Rattle.appending.specs.States.{retired-length}
 use Rattle.appending.specs.Buffer.{start-inside}
-use Rattle.append.specs.commit.Commit.{nextOf}
+use Rattle.append.specs.commit.Commit.{nextIdOf}
 use Rattle.append.specs.commit.Base.{Base, kept-opens}
 
 -- ---- an empty file
 
 module _ (g : List ℕ) (none-found : opened g ≡ none) where
   pub base-empty : (offsets : List ℕ) → length g ≡ 0 → Base g offsets 0 0 true 0
-  unfolding startOf nextId nextOf upTo
+  unfolding startOf nextId nextIdOf upTo
   base-empty offsets e =
       record {
         whole = e;
@@ -82,7 +82,7 @@ module _ (f old offsets : List ℕ) (n offset end id count : ℕ) (f-is : take n
   front-opens = ap opened front-same ∙ kept-opens f
 
   pub base-later : Base (take end old) offsets end (count + 1) false id
-  unfolding nextOf nextId upTo
+  unfolding nextIdOf nextId upTo
   base-later =
       let r = manifest-room f offsets offset count t s has-room m in
       record {

@@ -16,16 +16,16 @@ use Rattle.segment.specs.Laws.{linkFront, LinkRead, lies}
 use Rattle.segment.specs.Chained.{offsetsOf}
 use Rattle.manifest.specs.Lying.{Lying}
 
-unfoldable pub idsAt : List ℕ → List ℕ → List ℕ
-idsAt f os = map (λ o. idAt f o) os
+unfoldable pub entryIdsAt : List ℕ → List ℕ → List ℕ
+entryIdsAt f os = map (λ o. idAt f o) os
 
 unfoldable pub kindsAt : List ℕ → List ℕ → List ℕ
 kindsAt f os = map (λ o. kindAt f o) os
 
 -- ---- of links that lie in the file
 
-pub ids-lying : (f : List ℕ) (ls : List Link) → All (Lying f) ls → idsAt f (offsetsOf ls) ≡ map (λ l. l .id) ls
-unfolding idsAt All linkFront
+pub ids-lying : (f : List ℕ) (ls : List Link) → All (Lying f) ls → entryIdsAt f (offsetsOf ls) ≡ map (λ l. l .id) ls
+unfolding entryIdsAt All linkFront
 ids-lying f [] t = refl
 ids-lying f (l ∷ ls) t =
     let y = t .0 in
@@ -48,17 +48,17 @@ map-more g os i h = ap (λ (n : ℕ). map g (take n os)) (add-one i) ∙ ap (map
 pub record ReadAt (f os ids₀ ids ks₀ ks : List ℕ) (i : ℕ) : Type 0 where
   pub at-most : i ≤ length os
   pub ids-long : length ids ≡ length ids₀
-  pub ids-are : ids ≡ over ids₀ 0 (idsAt f (take i os))
+  pub ids-are : ids ≡ over ids₀ 0 (entryIdsAt f (take i os))
   pub kinds-long : length ks ≡ length ks₀
   pub kinds-are : ks ≡ over ks₀ 0 (kindsAt f (take i os))
 
 pub read-first : (f os ids ks : List ℕ) → ReadAt f os ids ids ks ks 0
-unfolding idsAt kindsAt
+unfolding entryIdsAt kindsAt
 read-first f os ids ks = record { at-most = omega arith; ids-long = refl; ids-are = sym (over-none ids 0); kinds-long = refl; kinds-are = sym (over-none ks 0) }
 
 pub read-next : (f os ids₀ ids ks₀ ks : List ℕ) (i : ℕ) → ReadAt f os ids₀ ids ks₀ ks i → i < length os → length os ≤ length ids₀ → length os ≤ length ks₀
     → (x : ℕ) → x ≡ idAt f (getD os i 0) → ReadAt f os ids₀ (set ids i x) ks₀ (set ks i (kindAt f (getD os i 0))) (i + 1)
-unfolding idsAt kindsAt
+unfolding entryIdsAt kindsAt
 read-next f os ids₀ ids ks₀ ks i st h a b x e =
     let n : length (take i os) ≡ i = length-take-le i os (omega arith) in
     let idsg : ℕ → ℕ = λ o. idAt f o in
@@ -77,9 +77,9 @@ read-next f os ids₀ ids ks₀ ks i st h a b x e =
     }
 
 pub read-last : (f os ids₀ ids ks₀ ks : List ℕ) (i : ℕ) → ReadAt f os ids₀ ids ks₀ ks i → length os ≤ i
-    → (ids ≡ over ids₀ 0 (idsAt f os)) × (ks ≡ over ks₀ 0 (kindsAt f os))
+    → (ids ≡ over ids₀ 0 (entryIdsAt f os)) × (ks ≡ over ks₀ 0 (kindsAt f os))
 read-last f os ids₀ ids ks₀ ks i st h =
     let at-most = st .at-most in
     let e : i ≡ length os = omega arith in
     let t : take i os ≡ os = ap (λ (n : ℕ). take n os) e ∙ take-length os in
-    (st .ids-are ∙ ap (λ (x : List ℕ). over ids₀ 0 (idsAt f x)) t, st .kinds-are ∙ ap (λ (x : List ℕ). over ks₀ 0 (kindsAt f x)) t)
+    (st .ids-are ∙ ap (λ (x : List ℕ). over ids₀ 0 (entryIdsAt f x)) t, st .kinds-are ∙ ap (λ (x : List ℕ). over ks₀ 0 (kindsAt f x)) t)

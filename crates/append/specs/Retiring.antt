@@ -22,7 +22,7 @@ use Rattle.appending.specs.Append.{oldLinks, oldStates}
 use Rattle.appending.specs.Opens.{rising-front}
 use Rattle.append.specs.bodies.Laid.{payload-front}
 use Rattle.append.specs.retire.Marks.{retireHeldBy, retiredBy, Rises, held-same, retired-same, rises-links}
-use Rattle.append.specs.Entries.{idsAt, kindsAt, ids-lying, kinds-lying}
+use Rattle.append.specs.Entries.{entryIdsAt, kindsAt, ids-lying, kinds-lying}
 
 module _ (f : List ℕ) (manifest count : ℕ) (m : ManifestAt f manifest count) where
   abbrev b : List Link
@@ -43,17 +43,17 @@ module _ (f : List ℕ) (manifest count : ℕ) (m : ManifestAt f manifest count)
     pub entries-inside : Inside f os
     entries-inside = subst (Inside f) os-are (lying-inside f b before-lying)
 
-    ids-are : idsAt f os ≡ map (λ l. l .id) b
-    ids-are = ap (idsAt f) (sym os-are) ∙ ids-lying f b before-lying
+    ids-are : entryIdsAt f os ≡ map (λ l. l .id) b
+    ids-are = ap (entryIdsAt f) (sym os-are) ∙ ids-lying f b before-lying
 
     kinds-are : kindsAt f os ≡ map (λ l. l .kind) b
     kinds-are = ap (kindsAt f) (sym os-are) ∙ kinds-lying f b before-lying
 
     -- the lists as the code has them, with the entries at their front
-    module _ (ids₀ ids ks₀ ks ss₀ ss part : List ℕ) (i : ids ≡ over ids₀ 0 (idsAt f os)) (k : ks ≡ over ks₀ 0 (kindsAt f os))
+    module _ (ids₀ ids ks₀ ks ss₀ ss part : List ℕ) (i : ids ≡ over ids₀ 0 (entryIdsAt f os)) (k : ks ≡ over ks₀ 0 (kindsAt f os))
         (s : ss ≡ over ss₀ 0 (statesIn count (drop 8 part))) (p : part ≡ m .found .link .payload) where
       ids-front : take count ids ≡ map (λ l. l .id) b
-      ids-front = payload-front ids ids₀ (idsAt f os) count i (ap length ids-are ∙ length-map b (λ l. l .id) ∙ m .count-is) ∙ ids-are
+      ids-front = payload-front ids ids₀ (entryIdsAt f os) count i (ap length ids-are ∙ length-map b (λ l. l .id) ∙ m .count-is) ∙ ids-are
 
       kinds-front : take count ks ≡ map (λ l. l .kind) b
       kinds-front = payload-front ks ks₀ (kindsAt f os) count k (ap length kinds-are ∙ length-map b (λ l. l .kind) ∙ m .count-is) ∙ kinds-are

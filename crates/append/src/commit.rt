@@ -8,7 +8,7 @@ ghost use Rattle.segment.specs.index.Offsets.{most};
 ghost use Rattle.manifest.specs.Opening.{opened};
 ghost use Rattle.batch.specs.Form.{batchHeld, bodiesOf};
 ghost use Rattle.appending.specs.Append.{appendedAnswer};
-ghost use Rattle.append.specs.commit.Commit.{nextOf, commitAnswer, commitBuffer};
+ghost use Rattle.append.specs.commit.Commit.{nextIdOf, commitAnswer, commitBuffer};
 ghost use Rattle.append.specs.commit.Base.{Base};
 ghost use Rattle.answers.specs.limits.Limits.{maxEntries};
 use appending::Appended;
@@ -16,7 +16,7 @@ use appending::Appended;
 // Whether the new manifest's id would pass the largest number: ids go on from `last`, or from 0 in an empty file.
 fn ids_over(first: bool, last: u64, m: u64) -> bool
     requires { ⌜ m ≤ 16 ⌝ }
-    ensures { λ r. ⌜ r ≡ ltb (2 ^ 64 - 1) (nextOf first last + m) ⌝ }
+    ensures { λ r. ⌜ r ≡ ltb (2 ^ 64 - 1) (nextIdOf first last + m) ⌝ }
 {
     if first {
         return false;
@@ -26,8 +26,8 @@ fn ids_over(first: bool, last: u64, m: u64) -> bool
 
 // The next id.
 fn next_id(first: bool, last: u64) -> u64
-    requires { ⌜ nextOf first last < 2 ^ 64 ⌝ }
-    ensures { λ r. ⌜ r ≡ nextOf first last ⌝ }
+    requires { ⌜ nextIdOf first last < 2 ^ 64 ⌝ }
+    ensures { λ r. ⌜ r ≡ nextIdOf first last ⌝ }
 {
     if first {
         return 0;

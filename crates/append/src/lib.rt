@@ -8,7 +8,7 @@ pub mod retire;
 pub mod vectors;
 
 ghost use mathlib.Core.Path.{_≡_};
-ghost use mathlib.Core.Bool.{true, not};
+ghost use mathlib.Core.Bool.{true};
 ghost use mathlib.Core.List.{_++_};
 ghost use Prim.Native.Nat.{_+_, _-_, _≤_, _<_};
 ghost use lib.ListN.{length, replicate};
@@ -20,7 +20,7 @@ ghost use Rattle.opening.specs.Indexed.{ManifestAt, Indexed};
 ghost use Rattle.appending.specs.Retire.{retireHeld, retired};
 ghost use Rattle.appending.specs.Append.{oldLinks, oldStates, Appends, appendedAnswer};
 ghost use Rattle.append.specs.commit.Answer.{batchNumber};
-ghost use Rattle.append.specs.Entries.{idsAt, kindsAt};
+ghost use Rattle.append.specs.Entries.{entryIdsAt, kindsAt};
 ghost use Rattle.answers.specs.limits.Limits.{maxEntries};
 use appending::Appended;
 use manifest::Opened;
@@ -41,7 +41,7 @@ fn read_entries(file: &[u8], offsets: &[u64], entry_ids: &mut [u64], kinds: &mut
     requires { ⌜ (length (now offsets) ≤ length (now «entry_ids»)) × (length (now offsets) ≤ length (now kinds)) ⌝ }
     requires { ⌜ Inside (now file) (now offsets) ⌝ }
     ensures { λ _. ⌜ now («entry_ids» .exit) ≡ over (now («entry_ids» .entry)) 0
-        (idsAt (now (file .entry)) (now (offsets .entry))) ⌝ }
+        (entryIdsAt (now (file .entry)) (now (offsets .entry))) ⌝ }
     ensures { λ _. ⌜ now (kinds .exit) ≡ over (now (kinds .entry)) 0
         (kindsAt (now (file .entry)) (now (offsets .entry))) ⌝ }
 {

@@ -6,13 +6,13 @@ ghost use lib.ListN.{getD};
 ghost use Rattle.batch.specs.Form.{batchHeld, bodyCount, bodiesOf};
 ghost use Rattle.batch.specs.Lines.{noBody};
 ghost use Rattle.appending.specs.Append.{vectorsBad};
-ghost use Rattle.append.specs.vectors.Vectors.{bodyBad};
+ghost use Rattle.append.specs.vectors.Vectors.{bodyNumber};
 
 // The number that refuses body j of a batch: a body of another type is not looked into.
 fn body_bad(batch: &[u8], j: usize) -> u32
     requires { ⌜ batchHeld (now batch) ≡ true ⌝ }
     requires { ⌜ j < bodyCount (now batch) ⌝ }
-    ensures { λ r. ⌜ r ≡ bodyBad (getD (bodiesOf (now (batch .entry))) j noBody) ⌝ }
+    ensures { λ r. ⌜ r ≡ bodyNumber (getD (bodiesOf (now (batch .entry))) j noBody) ⌝ }
 {
     let line = 16 + 16 * j;
     if batch[line] != vecseg::KIND {

@@ -17,16 +17,16 @@ use Rattle.appending.specs.Retire.{retireHeld}
 use Rattle.appending.specs.Append.{oldLinks, oldStates, manifestId, newCount, newEnd, vectorsBad, Check, checked, isNone, appendChecks, answerOn}
 
 -- an accepted call passed every test
-unfoldable pub Passed : List Check → Type 0
-Passed [] = Unit {0}
-Passed (c ∷ cs) = (c .bad ≡ false) × Passed cs
+unfoldable pub AllPass : List Check → Type 0
+AllPass [] = Unit {0}
+AllPass (c ∷ cs) = (c .bad ≡ false) × AllPass cs
 
-pub passed : (cs : List Check) (a : Answer) (vs : List ℕ) → checked cs a ≡ Accepted vs → Passed cs × (a ≡ Accepted vs)
-unfolding checked Passed
+pub passed : (cs : List Check) (a : Answer) (vs : List ℕ) → checked cs a ≡ Accepted vs → AllPass cs × (a ≡ Accepted vs)
+unfolding checked AllPass
 passed [] a vs q = (tt, q)
 passed (c ∷ cs) a vs q = go (c .bad) refl (passed cs a vs)
   where
-    go : (t : Bool) → c .bad ≡ t → (checked cs a ≡ Accepted vs → Passed cs × (a ≡ Accepted vs)) → ((c .bad ≡ false) × Passed cs) × (a ≡ Accepted vs)
+    go : (t : Bool) → c .bad ≡ t → (checked cs a ≡ Accepted vs → AllPass cs × (a ≡ Accepted vs)) → ((c .bad ≡ false) × AllPass cs) × (a ≡ Accepted vs)
     go true h ih = let q′ : Refusal (c .number) [] ≡ Accepted vs = rw h at q in let z : _≡_ {A = ℕ} 0 1 = cc in absurd (omega arith)
     go false h ih = let p = ih (rw h at q) in ((h, p .0), p .1)
 
@@ -56,7 +56,7 @@ none-bad v e = let h = ltb-false 0 v e in omega arith
 
 pub accepted-when : (room n : ℕ) (o : Option (Found Link)) (batch ids vs : List ℕ) → answerOn room n o batch ids ≡ Accepted vs
     → Fits room n o batch ids × (vs ≡ newEnd o (bodiesOf batch) ∷ manifestId o (bodiesOf batch) ∷ newCount o (bodiesOf batch) ∷ [])
-unfolding answerOn appendChecks Passed
+unfolding answerOn appendChecks AllPass
 accepted-when room n o batch ids vs q =
     let p = passed (appendChecks room n o batch ids) _ vs q in
     let t = p .0 in

@@ -77,7 +77,7 @@ module _ (f : List ℕ) (room n : ℕ) (batch ids : List ℕ) (ts : ℕ) (h : ts
       let b = length-take-le (startOf o) f s in
       omega (arith, new-length o (kept f) bs ids ts)
 
-pub record Appended (f old : List ℕ) (batch ids : List ℕ) (ts : ℕ) (vs new : List ℕ) : Type 0 where
+pub record AppendedBy (f old : List ℕ) (batch ids : List ℕ) (ts : ℕ) (vs new : List ℕ) : Type 0 where
   pub fits : Fits (length old) (length f) (opened f) batch ids
   pub values : vs ≡ newEnd (opened f) (bodiesOf batch) ∷ manifestId (opened f) (bodiesOf batch) ∷ newCount (opened f) (bodiesOf batch) ∷ []
   pub buffer : new ≡ over old (startOf (opened f)) (newBytes (opened f) (bodiesOf batch) ids ts)
@@ -95,7 +95,7 @@ module _ (f old : List ℕ) (batch ids : List ℕ) (ts : ℕ) (hold : Holds old 
     unfolding appendAnswer
     in-buffer = accepted-when (length old) (length f) (opened (take (length f) old)) batch ids vs (sym (a .answers)) .0 .in-buffer
 
-    pub appended : Appended f old batch ids ts vs new
+    pub appended : AppendedBy f old batch ids ts vs new
     unfolding appendBuffer bufferOn
     appended =
         let q : answerOn (length old) (length f) (opened f) batch ids ≡ Accepted vs = sym (a .answers ∙ answer-is in-buffer) in
@@ -111,7 +111,7 @@ module _ (f old : List ℕ) (batch ids : List ℕ) (ts : ℕ) (hold : Holds old 
           front = sym (ap (take (startOf (opened f))) (sym (hold in-buffer)) ∙ take-take (startOf (opened f)) (length f) old s);
         }
 
-module _ (f old : List ℕ) (batch ids : List ℕ) (ts : ℕ) (vs new : List ℕ) (a : Appended f old batch ids ts vs new) where
+module _ (f old : List ℕ) (batch ids : List ℕ) (ts : ℕ) (vs new : List ℕ) (a : AppendedBy f old batch ids ts vs new) where
   abbrev was : Option (Found Link)
   was = opened f
 

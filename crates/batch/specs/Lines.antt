@@ -135,15 +135,15 @@ module _ (s : List ℕ) where
 
 -- ---- where a loop over n lines stands: i are behind it, and the next body is to begin at `at`
 
-pub record LinesAt (s : List ℕ) (n i at : ℕ) : Type 0 where
+pub record BatchLinesAt (s : List ℕ) (n i at : ℕ) : Type 0 where
   pub at-most : i ≤ n
   pub small : at ≤ 16 + 16 * n + 4294967295 * i
   pub same : linesHeld (n - i) at (drop (16 + 16 * i) s) (length s) ≡ linesHeld n (bodiesAt n) (drop 16 s) (length s)
 
-pub lines-first : (s : List ℕ) (n : ℕ) → LinesAt s n 0 (16 + 16 * n)
+pub lines-first : (s : List ℕ) (n : ℕ) → BatchLinesAt s n 0 (16 + 16 * n)
 lines-first s n = let e : n - 0 ≡ n = omega arith in record { at-most = omega arith; small = omega arith; same = rw e }
 
-module _ (s : List ℕ) (n i at : ℕ) (st : LinesAt s n i at) (h : i < n) where
+module _ (s : List ℕ) (n i at : ℕ) (st : BatchLinesAt s n i at) (h : i < n) where
   -- the line as the code takes it out of the batch
   abbrev line : List ℕ
   line = take (16 + 16 * i + 16 - (16 + 16 * i)) (drop (16 + 16 * i) s)
@@ -164,12 +164,12 @@ module _ (s : List ℕ) (n i at : ℕ) (st : LinesAt s n i at) (h : i < n) where
   pub lines-stop : lineHeld at line ≡ false → false ≡ linesHeld n (bodiesAt n) (drop 16 s) (length s)
   lines-stop e = sym (turn ∙ rw (sym line-is ∙ e)) ∙ st .same
 
-  pub lines-next : (k : ℕ) → k ≡ leAt 4 s (16 + 16 * i + 8) → k ≤ 4294967295 → lineHeld at line ≡ true → LinesAt s n (i + 1) (at + k)
+  pub lines-next : (k : ℕ) → k ≡ leAt 4 s (16 + 16 * i + 8) → k ≤ 4294967295 → lineHeld at line ≡ true → BatchLinesAt s n (i + 1) (at + k)
   lines-next k k-is most e =
       let small = st .small in
       record { at-most = omega arith; small = omega arith; same = rw k-is (sym (turn ∙ rw (sym line-is ∙ e)) ∙ st .same) }
 
-pub lines-last : (s : List ℕ) (n i at : ℕ) → LinesAt s n i at → n ≤ i → eqb at (length s) ≡ linesHeld n (bodiesAt n) (drop 16 s) (length s)
+pub lines-last : (s : List ℕ) (n i at : ℕ) → BatchLinesAt s n i at → n ≤ i → eqb at (length s) ≡ linesHeld n (bodiesAt n) (drop 16 s) (length s)
 unfolding linesHeld
 lines-last s n i at st h =
     let at-most = st .at-most in

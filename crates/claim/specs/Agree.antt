@@ -21,7 +21,7 @@ use Rattle.appending.specs.Retire.{retired}
 use Rattle.appending.specs.Append.{keptLinks, startOf, nextId, oldStates, keptStates, bodySize, bodyLinks, bodiesEnd, manifestAt, manifestId, newEnd, newLinks, newStates, newPayload, Appends, Holds}
 use Rattle.appending.specs.Accepts.{Fits}
 use Rattle.appending.specs.Opens.{newManifest, fileWith}
-use Rattle.appending.specs.Buffer.{open-with, states-with, with-length, Appended, appended, file-is}
+use Rattle.appending.specs.Buffer.{open-with, states-with, with-length, AppendedBy, appended, file-is}
 use Rattle.claim.specs.Model.{Entry, linksOf, statesOf, liveEntry, Model, emptyModel, paired, modelOf, retiredIf}
 use Rattle.claim.specs.Model.{retire, ifAny, joinManifest, joinBody, joinBodies, newManifestEntry, acceptedModel, feed, feedAll}
 use Rattle.claim.specs.Demand3.{Call, isAccepted, fedOf, fedAll, fileAfter, Run, stop, call}
@@ -218,7 +218,7 @@ pub agree-call : (f old new batch ids : List ℕ) (ts : ℕ) (answer : Answer) (
 unfolding fileAfter feed isAccepted
 agree-call f old new batch ids ts (Refusal n vs) k h t p a = a
 agree-call f old new batch ids ts (Accepted vs) k h t p a =
-    let w : Appended f old batch ids ts vs new = appended f old batch ids ts h vs new p in
+    let w : AppendedBy f old batch ids ts vs new = appended f old batch ids ts h vs new p in
     let e : getD vs 0 0 ≡ newEnd (opened f) (bodiesOf batch) = ap (λ (x : List ℕ). getD x 0 0) (w .values) in
     subst (λ (g : List ℕ). Agree g (acceptedModel batch ids ts k)) (sym (ap (λ (n : ℕ). take n new) e ∙ file-is f old batch ids ts vs new w))
     (agree-with f k a batch ids ts (length old) (length f) t (w .fits))

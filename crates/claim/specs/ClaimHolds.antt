@@ -18,7 +18,7 @@ use Rattle.reading.specs.Part.{InFile}
 use Rattle.reading.specs.Placed.{before-in}
 use Rattle.batch.specs.Form.{bodiesOf}
 use Rattle.appending.specs.Append.{startOf, oldStates, keptLinks, newEnd, bufferOn, appendBuffer, Appends, Holds}
-use Rattle.appending.specs.Buffer.{Appended, appended, before-start, behind-end, file-is, with-length}
+use Rattle.appending.specs.Buffer.{AppendedBy, appended, before-start, behind-end, file-is, with-length}
 use Rattle.claim.specs.Model.{Entry, linksOf, statesOf, Model, ifAny, feedAll}
 use Rattle.claim.specs.Demand3.{Call, isAccepted, fileAfter, Run, stop, call, fedAll, Starts, empty, opens, entryBy, orBefore, lastAccepted, Claim, LeftAlone, Untouched}
 use Rattle.claim.specs.Agree.{Agree, foundBy, run-agrees, agree-empty, agree-opened}
@@ -84,7 +84,7 @@ starts-agree (opens {f = f} {r = r} h e) = agree-opened f r h e
 pub accepted-length : (f old new batch ids vs : List ℕ) (ts : ℕ) → ts < 2 ^ 64 → Holds old f → Appends old (length f) batch ids ts (Accepted vs) new
     → length (take (getD vs 0 0) new) ≡ getD vs 0 0
 accepted-length f old new batch ids vs ts t h p =
-    let w : Appended f old batch ids ts vs new = appended f old batch ids ts h vs new p in
+    let w : AppendedBy f old batch ids ts vs new = appended f old batch ids ts h vs new p in
     let e : getD vs 0 0 ≡ newEnd (opened f) (bodiesOf batch) = ap (λ (x : List ℕ). getD x 0 0) (w .values) in
     ap (λ (n : ℕ). length (take n new)) e
     ∙ ap length (file-is f old batch ids ts vs new w)
@@ -103,27 +103,27 @@ some-accepted (c ∷ cs) a e = go (lastAccepted cs) refl (c .answer) e (some-acc
     go none q (Refusal n vs) z ih = absurd (let w : _≡_ {A = ℕ} 0 1 = cc in omega arith)
 
 -- the end that an append answers
-unfoldable firstOf : Answer → ℕ
-firstOf (Accepted vs) = getD vs 0 0
-firstOf (Refusal n vs) = 0
+unfoldable endOf : Answer → ℕ
+endOf (Accepted vs) = getD vs 0 0
+endOf (Refusal n vs) = 0
 
-run-ends : {f g : List ℕ} {cs : List Call} → Run f cs g → (a : Answer) → lastAccepted cs ≡ some a → length g ≡ firstOf a
-unfolding lastAccepted orBefore fileAfter firstOf
+run-ends : {f g : List ℕ} {cs : List Call} → Run f cs g → (a : Answer) → lastAccepted cs ≡ some a → length g ≡ endOf a
+unfolding lastAccepted orBefore fileAfter endOf
 run-ends stop a e = absurd (let w : _≡_ {A = ℕ} 0 1 = cc in omega arith)
 run-ends (call {f = f} {g = g} {old = old} {new = new} {batch = batch} {ids = ids} {ts = ts} {answer = answer} {cs = cs} h t p r) a e =
     go (lastAccepted cs) refl answer p r e (λ z. run-ends r a z)
   where
     go : (o : Option Answer) → lastAccepted cs ≡ o → (answer : Answer) → Appends old (length f) batch ids ts answer new
-        → Run (fileAfter f new answer) cs g → orBefore o answer ≡ some a → (lastAccepted cs ≡ some a → length g ≡ firstOf a) → length g ≡ firstOf a
+        → Run (fileAfter f new answer) cs g → orBefore o answer ≡ some a → (lastAccepted cs ≡ some a → length g ≡ endOf a) → length g ≡ endOf a
     go (some b) q answer p r z ih = ih (q ∙ z)
     go none q (Accepted vs) p r z ih =
-        ap length (refused-run r q) ∙ accepted-length f old new batch ids vs ts t h p ∙ ap firstOf (Option·some-injective _ _ z)
+        ap length (refused-run r q) ∙ accepted-length f old new batch ids vs ts t h p ∙ ap endOf (Option·some-injective _ _ z)
     go none q (Refusal n vs) p r z ih = absurd (let w : _≡_ {A = ℕ} 0 1 = cc in omega arith)
 
 -- ---- whatever calls were made, each as the contract of an append says, the claim holds of the file and the model after them
 
 pub every-run : {f g : List ℕ} {cs : List Call} {k : Model} → Starts f k → Run f cs g → Claim cs g (feedAll (fedAll cs) k)
-unfolding reported firstOf isAccepted
+unfolding reported endOf isAccepted
 every-run {g = g} {cs = cs} {k = k} s r =
     let a = run-agrees k r (starts-agree s) in
     record {
@@ -135,16 +135,16 @@ every-run {g = g} {cs = cs} {k = k} s r =
       lies = entries-lie _ _ a;
     }
   where
-    ends-at : (o : Option Entry) (x : Answer) → x ≡ reported (feedAll (fedAll cs) k) o → isAccepted x ≡ true → firstOf x ≡ feedAll (fedAll cs) k .end
+    ends-at : (o : Option Entry) (x : Answer) → x ≡ reported (feedAll (fedAll cs) k) o → isAccepted x ≡ true → endOf x ≡ feedAll (fedAll cs) k .end
     ends-at none x e q = absurd (true≢false (sym q ∙ ap isAccepted e))
-    ends-at (some m) x e q = ap firstOf e
+    ends-at (some m) x e q = ap endOf e
 
 -- ---- what each call leaves alone
 
 call-leaves : (f old new batch ids : List ℕ) (ts : ℕ) (answer : Answer) → Holds old f → Appends old (length f) batch ids ts answer new → LeftAlone f old new answer
 unfolding LeftAlone appendBuffer bufferOn
 call-leaves f old new batch ids ts (Accepted vs) h p =
-    let w : Appended f old batch ids ts vs new = appended f old batch ids ts h vs new p in
+    let w : AppendedBy f old batch ids ts vs new = appended f old batch ids ts h vs new p in
     let e : getD vs 0 0 ≡ newEnd (opened f) (bodiesOf batch) = ap (λ (x : List ℕ). getD x 0 0) (w .values) in
     (before-start f old batch ids ts vs new w, rw e (behind-end f old batch ids ts vs new w))
 call-leaves f old new batch ids ts (Refusal n vs) h p = p .leaves ∙ ap (bufferOn (opened (take (length f) old)) old (bodiesOf batch) ids ts) (sym (p .answers))

@@ -24,7 +24,7 @@ use Rattle.reading.specs.Listing.{maxListed, listWith}
 use Rattle.batch.specs.Form.{bodiesOf}
 use Rattle.appending.specs.Append.{startOf, newEnd, newBytes, checked, isNone, appendChecks, answerOn, appendAnswer, Appends, Holds}
 use Rattle.appending.specs.Opens.{kept, cutFile, new-length}
-use Rattle.appending.specs.Buffer.{start-inside, open-cut, Appended, appended, answer-is, some-new}
+use Rattle.appending.specs.Buffer.{start-inside, open-cut, AppendedBy, appended, answer-is, some-new}
 use Rattle.claim.specs.Demand3.{Call, fileAfter, Run, stop, call, orBefore, lastAccepted, withoutTried, Alike, LastAppend, cutAt}
 use Rattle.claim.specs.Reports.{refused-run}
 
@@ -64,7 +64,7 @@ module _ {f₀ g : List ℕ} {cs : List Call} (l : LastAppend f₀ cs g) where
   abbrev f : List ℕ
   f = l .got
 
-  w : Appended f (l .old) (l .batch) (l .retiring) (l .timestamp) (l .values) (l .new)
+  w : AppendedBy f (l .old) (l .batch) (l .retiring) (l .timestamp) (l .values) (l .new)
   w = appended f (l .old) (l .batch) (l .retiring) (l .timestamp) (l .holds) (l .values) (l .new) (l .appends)
 
   end-is : getD (l .values) 0 0 ≡ newEnd (opened f) (bodiesOf (l .batch))

@@ -14,7 +14,7 @@ use Rattle.manifest.specs.Opening.{opened}
 use Rattle.batch.specs.Form.{bodiesOf}
 use Rattle.appending.specs.Append.{manifestId, newCount, newEnd, Appends, Holds}
 use Rattle.appending.specs.Opens.{kept, links-count}
-use Rattle.appending.specs.Buffer.{next-size, Appended, appended}
+use Rattle.appending.specs.Buffer.{next-size, AppendedBy, appended}
 use Rattle.claim.specs.Model.{Entry, Model, retire, joinManifest, joinBodies, newManifestEntry, acceptedModel, feed, feedAll}
 use Rattle.claim.specs.Demand3.{fileAfter, Call, isAccepted, fedOf, fedAll, Run, stop, call, orBefore, lastAccepted}
 use Rattle.claim.specs.Agree.{Agree, agree-call, full-links, full-end, full-next, link-is}
@@ -68,7 +68,7 @@ call-reported : (f old new batch ids : List ℕ) (ts : ℕ) (answer : Answer) (k
 unfolding orBefore feed isAccepted
 call-reported f old new batch ids ts (Refusal n vs) k h p y a e = absurd (let w : _≡_ {A = ℕ} 0 1 = cc in omega arith)
 call-reported f old new batch ids ts (Accepted vs) k h p y a e =
-    let w : Appended f old batch ids ts vs new = appended f old batch ids ts h vs new p in
+    let w : AppendedBy f old batch ids ts vs new = appended f old batch ids ts h vs new p in
     sym (Option·some-injective _ _ e) ∙ ap Accepted (w .values) ∙ sym (reported-is f k y batch ids ts)
 
 -- the last accepted append answered what the model says

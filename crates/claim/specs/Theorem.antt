@@ -9,7 +9,7 @@ use native.Mathlib.Omega.{arith}
 use lib.ListN.{length}
 use Rattle.answers.specs.Answer.{Answer, Accepted, Refusal}
 use Rattle.appending.specs.Append.{Appends, Holds}
-use Rattle.appending.specs.Buffer.{Appended, appended}
+use Rattle.appending.specs.Buffer.{AppendedBy, appended}
 use Rattle.claim.specs.Model.{Model}
 use Rattle.claim.specs.Demand3.{Call, fileAfter, Run, stop, call, orBefore, lastAccepted, Starts, Demand3, Closed}
 use Rattle.claim.specs.ClaimHolds.{every-run, every-call}
@@ -31,7 +31,7 @@ no-accept : (f old new batch ids : List ℕ) (ts : ℕ) (answer : Answer) → Cl
 unfolding orBefore fileAfter Closed
 no-accept f old new batch ids ts (Refusal n vs) c h a = (refl, refl)
 no-accept f old new batch ids ts (Accepted vs) c h a =
-    let w : Appended f old batch ids ts vs new = appended f old batch ids ts h vs new a in
+    let w : AppendedBy f old batch ids ts vs new = appended f old batch ids ts h vs new a in
     absurd (let z = w .fits .starts-empty (c .1 (w .fits .in-limit)) in omega (arith, c .0))
 
 pub closed-run : {f g : List ℕ} {cs : List Call} → Closed f → Run f cs g → (g ≡ f) × (lastAccepted cs ≡ none)

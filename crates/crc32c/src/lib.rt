@@ -4,7 +4,7 @@
 ghost use mathlib.Core.Path.{_≡_};
 ghost use Prim.Native.Nat.{_+_, _<_, _≤_};
 ghost use lib.ListN.{length, drop};
-ghost use Rattle.crc32c.specs.Crc.{poly, bits, crcFrom, crcOf};
+ghost use Rattle.crc32c.specs.Crc.{bits, crcFrom, crcOf};
 ghost use Rattle.crc32c.specs.Words.{eight};
 ghost use Rattle.crc32c.specs.Ahead.{Ahead};
 

@@ -12,13 +12,13 @@ use Rattle.answers.specs.limits.Limits.{maxVectors}
 use Rattle.idmap.specs.Encode.{mapHead, rawIds, deltas, restarts, intervalOf, mapBytes, risesFrom, intervalHeld, mapBad}
 use Rattle.octets.specs.ZeroLaws.{and-split}
 
-pub record Good (ids : List ℕ) (encoding interval : ℕ) : Type 0 where
+pub record GoodInput (ids : List ℕ) (encoding interval : ℕ) : Type 0 where
   pub one : 1 ≤ length ids
   pub most : length ids ≤ 4096
   pub up : risesFrom 0 ids ≡ true
   pub delta : (encoding ≡ 0 → ⊥) → (encoding ≡ 1) × (interval < 65536)
 
-pub good : (ids : List ℕ) (encoding interval : ℕ) → mapBad ids encoding interval ≡ 0 → Good ids encoding interval
+pub good : (ids : List ℕ) (encoding interval : ℕ) → mapBad ids encoding interval ≡ 0 → GoodInput ids encoding interval
 unfolding mapBad intervalHeld
 good ids encoding interval e = pick (leb 1 (length ids) && leb (length ids) maxVectors && intervalHeld encoding interval && risesFrom 0 ids) refl e
   where
@@ -30,7 +30,7 @@ good ids encoding interval e = pick (leb 1 (length ids) && leb (length ids) maxV
         (eqb-true encoding 1 (w .0), ltb-true interval 65536 (w .1))
 
     pick : (t : Bool) → leb 1 (length ids) && leb (length ids) maxVectors && intervalHeld encoding interval && risesFrom 0 ids ≡ t → _≡_ {A = ℕ} (cond t 0 14) 0
-        → Good ids encoding interval
+        → GoodInput ids encoding interval
     pick false p q = absurd (omega arith)
     pick true p q =
         let a = and-split _ _ p in

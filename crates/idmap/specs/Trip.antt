@@ -1,8 +1,8 @@
 -- What the id-map writer writes is read back as the ids, for every list that it accepts and whatever bytes follow.
 -- Assumes nothing.
 use Prim.Native.Nat.{ℕ, zero, suc, _+_, _-_, _*_, _^_, _≤_, _<_}
-use mathlib.Core.Path.{_≡_, refl, sym, ap, _∙_}
-use mathlib.Core.Bool.{Bool, true, false, cond}
+use mathlib.Core.Path.{_≡_, refl, sym, ap, ap₂, _∙_}
+use mathlib.Core.Bool.{Bool, true, false, cond, _&&_}
 use mathlib.Core.List.{List, [], _∷_, _++_, append-assoc, append-nil}
 use native.Mathlib.Omega.{arith}
 use lib.Dec.{eqb, leb}
@@ -19,7 +19,7 @@ use Rattle.idmap.specs.Decode.{Whole, readRaw, rawMap, idOf, idHeld, off
 use Rattle.idmap.specs.DeltaLaws.{deltas-next}
 use Rattle.idmap.specs.EncodeLaws.{length-head, length-rawIds, length-restarts}
 use Rattle.octets.specs.ZeroLaws.{and-split}
-use Rattle.idmap.specs.Accepted.{Good, good, bytes-raw, bytes-delta, interval-pos}
+use Rattle.idmap.specs.Accepted.{GoodInput, good, bytes-raw, bytes-delta, interval-pos}
 
 -- every element fits 64 bits
 abbrev pub Words : List ℕ → Type 0
@@ -58,7 +58,7 @@ deltas-short r left prev (x ∷ xs) =
 one-held : (left low prev at x : ℕ) (offs : List ℕ) → (0 < left → low ≡ suc prev) → low ≤ x → x < 2 ^ 64 → (left ≡ 0 → leOf (take 4 offs) ≡ at)
     → (idHeld left low at offs (deltaOf left prev x) ≡ true) × (idOf left low (deltaOf left prev x) ≡ x)
 unfolding idHeld idOf deltaOf
-one-held zero low prev at x offs k up w o = (rw (eq-eqb (leOf (take 4 offs)) at (o refl), le-leb low x up), refl)
+one-held zero low prev at x offs k up w o = (ap₂ _&&_ (eq-eqb (leOf (take 4 offs)) at (o refl)) (le-leb low x up), refl)
 one-held (suc left) low prev at x offs k up w o =
     let e : low ≡ suc prev = k (omega arith) in
     (rw (lt-ltb 0 (x - prev) (omega arith), le-leb (low + (x - prev)) (2 ^ 64) (omega arith)), omega arith)
@@ -157,7 +157,7 @@ pub read-back : (ids rest : List ℕ) (encoding interval : ℕ) → mapBad ids e
     → mapOf (length ids) (mapBytes ids encoding interval ++ rest) ≡ Whole (length (mapBytes ids encoding interval)) ids
 read-back ids rest encoding interval ok w = pick (eqb encoding 0) refl
   where
-    g : Good ids encoding interval
+    g : GoodInput ids encoding interval
     g = good ids encoding interval ok
 
     pick : (t : Bool) → eqb encoding 0 ≡ t → mapOf (length ids) (mapBytes ids encoding interval ++ rest) ≡ Whole (length (mapBytes ids encoding interval)) ids

@@ -1,6 +1,6 @@
 // The number that a list of ids, an encoding and an interval are refused with.
 ghost use mathlib.Core.Path.{_≡_};
-ghost use Prim.Native.Nat.{_+_, _<_};
+ghost use Prim.Native.Nat.{_<_};
 ghost use Rattle.idmap.specs.Encode.{intervalHeld, risesFrom, mapBad};
 
 // Whether ids rise strictly.

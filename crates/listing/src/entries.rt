@@ -1,13 +1,12 @@
 // The lister's lines of a manifest's directory.
 ghost use Prim.Native.Nat.{_+_, _*_, _≤_};
 ghost use lib.ListN.{length};
-ghost use Rattle.octets.specs.le.Le.{leAt};
 ghost use Rattle.octets.specs.text.Written.{Written};
 ghost use Rattle.segment.specs.index.Offsets.{most};
 ghost use Rattle.manifest.specs.Opening.{opened};
 ghost use Rattle.opening.specs.Indexed.{ManifestAt, Indexed};
 ghost use Rattle.reading.specs.Listing.{stateWord};
-ghost use Rattle.listing.specs.line.Lines.{lineAt};
+ghost use Rattle.listing.specs.line.Lines.{textLineAt};
 ghost use Rattle.listing.specs.entries.Entries.{entryLines};
 ghost use Rattle.segment.specs.Header.{lengthAt};
 
@@ -16,7 +15,7 @@ fn put_entry(text: &mut [u8], at: usize, file: &[u8], p: usize, state: u8) -> us
     requires { ⌜ p + (64 + lengthAt (now file) p) ≤ length (now file) ⌝ }
     requires { ⌜ at + 97 ≤ length (now text) ⌝ }
     ensures { λ r. ⌜ Written (now (text .entry)) (now (text .exit)) at
-        (lineAt (now (file .entry)) p (stateWord state)) r ⌝ }
+        (textLineAt (now (file .entry)) p (stateWord state)) r ⌝ }
     ensures { λ r. ⌜ r ≤ at + 97 ⌝ }
 {
     if state == 0 {

@@ -2,10 +2,9 @@
 ghost use mathlib.Core.List.{_++_};
 ghost use Prim.Native.Nat.{_+_, _≤_};
 ghost use lib.ListN.{length};
-ghost use Rattle.octets.specs.le.Le.{leAt};
 ghost use Rattle.octets.specs.text.Written.{Written};
 ghost use Rattle.reading.specs.Listing.{column, checkWord};
-ghost use Rattle.listing.specs.line.Lines.{lineAt};
+ghost use Rattle.listing.specs.line.Lines.{textLineAt};
 ghost use Rattle.segment.specs.Header.{lengthAt};
 
 // Two columns.
@@ -35,7 +34,7 @@ pub fn put_segment(text: &mut [u8], at: usize, file: &[u8], p: usize, word: &[u8
     requires { ⌜ p + (64 + lengthAt (now file) p) ≤ length (now file) ⌝ }
     requires { ⌜ (at + 97 ≤ length (now text)) × (length (now word) ≤ 8) ⌝ }
     ensures { λ r. ⌜ Written (now (text .entry)) (now (text .exit)) at
-        (lineAt (now (file .entry)) p (now (word .entry))) r ⌝ }
+        (textLineAt (now (file .entry)) p (now (word .entry))) r ⌝ }
     ensures { λ r. ⌜ r ≤ at + 97 ⌝ }
 {
     let length = octets::le::u64_at(file, p + segment::fields::LENGTH);

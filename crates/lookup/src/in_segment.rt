@@ -2,7 +2,6 @@
 ghost use mathlib.Core.Path.{_≡_};
 ghost use Prim.Native.Nat.{_+_, _≤_};
 ghost use lib.ListN.{length};
-ghost use Rattle.octets.specs.le.Le.{leAt};
 ghost use Rattle.lookup.specs.in_segment.Located.{segmentHitAt};
 ghost use Rattle.segment.specs.Header.{lengthAt};
 ghost use Rattle.answers.specs.limits.Limits.{maxVectors};

@@ -34,17 +34,17 @@ le-back s k a t h =
     ap (λ (m : ℕ). leBytes m (leAt k s a)) (sym n) ∙ leBytes-leOf (take k (drop a s)) (bytes-take k (drop a s) (bytes-drop a s t))
 
 -- an entry by the fields of a link
-abbrev entryOf : ℕ → ℕ → ℕ → List ℕ → ℕ → ℕ → ℕ → List ℕ
-entryOf offset id len hash kind flags state =
+abbrev entryWith : ℕ → ℕ → ℕ → List ℕ → ℕ → ℕ → ℕ → List ℕ
+entryWith offset id len hash kind flags state =
     leBytes 8 offset ++ (leBytes 8 id ++ (leBytes 8 len ++ (hash ++ ((kind ∷ state ∷ []) ++ (leBytes 2 flags ++ leBytes 4 0)))))
 
 entry-same : (offset id len kind flags state offset′ id′ len′ kind′ flags′ : ℕ) (hash hash′ : List ℕ) → offset ≡ offset′ → id ≡ id′ → len ≡ len′ → hash ≡ hash′
-    → kind ≡ kind′ → flags ≡ flags′ → entryOf offset id len hash kind flags state ≡ entryOf offset′ id′ len′ hash′ kind′ flags′ state
+    → kind ≡ kind′ → flags ≡ flags′ → entryWith offset id len hash kind flags state ≡ entryWith offset′ id′ len′ hash′ kind′ flags′ state
 entry-same offset id len kind flags state offset′ id′ len′ kind′ flags′ hash hash′ e₁ e₂ e₃ e₄ e₅ e₆ = rw (e₁, e₂, e₃, e₄, e₅, e₆)
 
 -- the fields that stand in a header, as the file has them
 header-entry : (f : List ℕ) (o state : ℕ) → Bytes f → o + 64 ≤ length f
-    → entryOf o (leAt 8 (drop o f) 0x08) (leAt 8 (drop o f) 0x10) (take 16 (drop 0x28 (drop o f))) (getD (drop o f) 0x05 0) (leAt 2 (drop o f) 0x06) state ≡ entryAt f o state
+    → entryWith o (leAt 8 (drop o f) 0x08) (leAt 8 (drop o f) 0x10) (take 16 (drop 0x28 (drop o f))) (getD (drop o f) 0x05 0) (leAt 2 (drop o f) 0x06) state ≡ entryAt f o state
 unfolding entryAt
 header-entry f o state t h =
     let s = drop o f in

@@ -12,7 +12,7 @@ use lib.Seq.{drop-cons, set-at, take-at, drop-drop, drop-append-add, length-take
 -- nothing written
 pub over-none : (s : List ℕ) (at : ℕ) → over s at [] ≡ s
 unfolding over
-over-none s at = rw (add-zero, take-append-drop)
+over-none s at = ap (λ (n : ℕ). take at s ++ drop n s) (add-zero at) ∙ take-append-drop at s
 
 pub length-over : (s : List ℕ) (at : ℕ) (xs : List ℕ) → at + length xs ≤ length s → length (over s at xs) ≡ length s
 unfolding over

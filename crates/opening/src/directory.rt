@@ -2,9 +2,8 @@
 ghost use mathlib.Core.Path.{_≡_};
 ghost use Prim.Native.Nat.{_+_, _≤_, _<_};
 ghost use lib.ListN.{length};
-ghost use Rattle.manifest.specs.Payload.{confirmed};
 ghost use Rattle.manifest.specs.Directory.{entryCase};
-ghost use Rattle.opening.specs.directory.Entry.{entryAt};
+ghost use Rattle.opening.specs.directory.Entry.{entryReadAt};
 use manifest::DirectoryEntry;
 use manifest::Opened;
 
@@ -12,7 +11,7 @@ use manifest::Opened;
 // link what the link's own header says; the state stands in the manifest alone.
 fn read_entry(file: &[u8], p: usize, s: usize) -> DirectoryEntry
     requires { ⌜ (p + 64 ≤ length (now file)) × (s < length (now file)) ⌝ }
-    ensures { λ r. ⌜ r ≡ entryAt (now (file .entry)) p s ⌝ }
+    ensures { λ r. ⌜ r ≡ entryReadAt (now (file .entry)) p s ⌝ }
 {
     DirectoryEntry::Of {
         offset: p as u64,

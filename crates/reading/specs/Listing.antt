@@ -35,8 +35,8 @@ unfoldable pub line : ℕ → ℕ → ℕ → ℕ → List ℕ → Bool → List
 line id kind offset len word ok = column id ++ (column kind ++ (column offset ++ (column len ++ (word ++ checkWord ok))))
 
 -- the line of a segment
-unfoldable pub lineOf : Link → List ℕ → List ℕ
-lineOf l word = line (l .id) (l .kind) (l .offset) (length (l .payload)) word (whole l)
+unfoldable pub segmentLine : Link → List ℕ → List ℕ
+segmentLine l word = line (l .id) (l .kind) (l .offset) (length (l .payload)) word (whole l)
 
 -- '`live` or `retired`'
 unfoldable pub stateWord : ℕ → List ℕ
@@ -45,7 +45,7 @@ stateWord state = cond (eqb state 0) (ascii "live") (ascii "retired")
 -- 'One line an entry', in the directory's order: the links with their states
 unfoldable pub linesOf : List Link → List ℕ → List ℕ
 linesOf [] ss = []
-linesOf (l ∷ ls) ss = lineOf l (stateWord (getD ss 0 0)) ++ linesOf ls (drop 1 ss)
+linesOf (l ∷ ls) ss = segmentLine l (stateWord (getD ss 0 0)) ++ linesOf ls (drop 1 ss)
 
 -- 'last its end and the boundaries tried'
 unfoldable pub endLine : ℕ → ℕ → List ℕ
@@ -57,7 +57,7 @@ listFound t none = refusedLine 2
 listFound t (some r) =
     heading
     ++ (linesOf (r .before) (states r)
-    ++ (lineOf (r .link) (ascii "manifest") ++ endLine (r .link .offset + size (r .link)) t))
+    ++ (segmentLine (r .link) (ascii "manifest") ++ endLine (r .link .offset + size (r .link)) t))
 
 -- the whole text: 1 above the lister's limit, before anything else is looked at; with some number, and with the boundaries tried
 unfoldable pub listWith : ℕ → List ℕ → List ℕ

@@ -9,7 +9,7 @@ use native.Mathlib.Omega.{arith}
 use lib.ListN.{length, take, drop}
 use lib.Seq.{take-at, drop-at, drop-drop, take-append-seam, drop-append-seam, drop-length}
 use borrow.Author.Tests.{le-leb}
-use Rattle.octets.specs.Round.{round64}
+use Rattle.octets.specs.Round.{round64, padding}
 use Rattle.octets.specs.Zero.{allZero, sameBytes}
 use Rattle.octets.specs.ZeroLaws.{zeros-all, equal-same}
 use Rattle.octets.specs.le.Le.{leBytes}
@@ -18,7 +18,7 @@ use Rattle.segment.specs.chain.Laws.{extend, Exact, done, more}
 use Rattle.segment.specs.chain.Framed.{framed-whole}
 use Rattle.segment.specs.Header.{all, State, reader, read, linkAt, linkIn, sizeAt, size, sound, headSound}
 use Rattle.segment.specs.Header.{typeHeld, flagsHeld, contentHash, whole, lengthIn, idIn, kindIn, flagsIn, timestampIn, hashIn}
-use Rattle.segment.specs.Written.{headerOf, header, padding, segment, linkOf}
+use Rattle.segment.specs.Written.{headerOf, header, segment, linkOf}
 use Rattle.segment.specs.WrittenLaws.{header-length, segment-length}
 use Rattle.segment.specs.Laws.{segment-format}
 
@@ -75,11 +75,11 @@ module _ (st : State) (kind flags id timestamp : ℕ) (payload : List ℕ) (f : 
 
   front : take 64 seg ≡ head
   unfolding segment
-  front = rw append-assoc (take-at head (payload ++ padding payload) 64 (header-length kind flags id timestamp payload))
+  front = rw append-assoc (take-at head (payload ++ padding (length payload)) 64 (header-length kind flags id timestamp payload))
 
-  behind : drop 64 seg ≡ payload ++ padding payload
+  behind : drop 64 seg ≡ payload ++ padding (length payload)
   unfolding segment
-  behind = rw append-assoc (drop-at head (payload ++ padding payload) 64 (header-length kind flags id timestamp payload))
+  behind = rw append-assoc (drop-at head (payload ++ padding (length payload)) 64 (header-length kind flags id timestamp payload))
 
   length-is : lengthIn head ≡ length payload
   length-is = length-at kind flags id timestamp payload (f .length-fits)
@@ -87,7 +87,7 @@ module _ (st : State) (kind flags id timestamp : ℕ) (payload : List ℕ) (f : 
   zeros : allZero (drop (64 + length payload) seg) ≡ true
   unfolding padding
   zeros =
-      rw (← (drop-drop (length payload) 64 seg), behind, drop-append-seam payload (padding payload))
+      rw (← (drop-drop (length payload) 64 seg), behind, drop-append-seam payload (padding (length payload)))
       (zeros-all (round64 (length payload) - length payload))
 
   seg-sound : sound (st .least) seg ≡ true
@@ -106,7 +106,7 @@ module _ (st : State) (kind flags id timestamp : ℕ) (payload : List ℕ) (f : 
         hash-at kind flags id timestamp payload,
         length-is,
         behind,
-        take-append-seam payload (padding payload),
+        take-append-seam payload (padding (length payload)),
       )
 
   seg-size : sizeAt (take 64 seg) ≡ length seg

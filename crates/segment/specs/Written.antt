@@ -3,7 +3,7 @@
 use mathlib.Core.List.{List, [], _∷_, _++_}
 use Prim.Native.Nat.{ℕ, _-_}
 use lib.ListN.{length, replicate}
-use Rattle.octets.specs.Round.{round64}
+use Rattle.octets.specs.Round.{round64, padding}
 use Rattle.octets.specs.le.Le.{leBytes}
 use Rattle.segment.specs.Header.{magic, contentHash, Link}
 
@@ -16,11 +16,8 @@ unfoldable pub header : ℕ → ℕ → ℕ → ℕ → List ℕ → List ℕ
 header kind flags id timestamp payload = headerOf kind flags id timestamp (length payload) (contentHash payload)
 
 -- 'Every segment is padded, the last too'
-unfoldable pub padding : List ℕ → List ℕ
-padding payload = replicate (round64 (length payload) - length payload) 0
-
 unfoldable pub segment : ℕ → ℕ → ℕ → ℕ → List ℕ → List ℕ
-segment kind flags id timestamp payload = header kind flags id timestamp payload ++ payload ++ padding payload
+segment kind flags id timestamp payload = header kind flags id timestamp payload ++ payload ++ padding (length payload)
 
 -- the link that a segment written at a place is
 unfoldable pub linkOf : ℕ → ℕ → ℕ → ℕ → ℕ → List ℕ → Link

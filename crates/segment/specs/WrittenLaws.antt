@@ -6,9 +6,9 @@ use Prim.Native.Nat.{ℕ, _+_, _≤_, _-_, _*_, _/_, _%_}
 use lib.ListN.{length, length-append, length-replicate, replicate}
 use Rattle.octets.specs.le.Le.{leBytes}
 use Rattle.segment.specs.Header.{contentHash, size}
-use Rattle.segment.specs.Written.{headerOf, header, padding, segment, linkOf}
+use Rattle.segment.specs.Written.{headerOf, header, segment, linkOf}
 use native.Mathlib.Omega.{arith}
-use Rattle.octets.specs.Round.{round64}
+use Rattle.octets.specs.Round.{round64, padding}
 use Rattle.octets.specs.RoundLaws.{round64-ge}
 
 -- ---- lengths
@@ -25,7 +25,7 @@ pub header-length : (kind flags id timestamp : ℕ) (payload : List ℕ) → len
 unfolding header
 header-length kind flags id timestamp payload = headerOf-length kind flags id timestamp (length payload) (contentHash payload) (hash-length payload)
 
-pub padding-length : (payload : List ℕ) → length payload + length (padding payload) ≡ round64 (length payload)
+pub padding-length : (payload : List ℕ) → length payload + length (padding (length payload)) ≡ round64 (length payload)
 unfolding padding
 padding-length payload =
     let q : length payload ≤ round64 (length payload) = round64-ge (length payload) in
@@ -48,7 +48,7 @@ unfolding size linkOf
 linkOf-size at kind flags id timestamp payload = refl
 
 -- a payload of a multiple of 64 bytes has no padding
-pub padding-none : (payload : List ℕ) → length payload % 64 ≡ 0 → padding payload ≡ []
+pub padding-none : (payload : List ℕ) → length payload % 64 ≡ 0 → padding (length payload) ≡ []
 unfolding padding round64
 padding-none payload h =
     let e : (length payload + 63) / 64 * 64 - length payload ≡ 0 = omega arith in

@@ -1,6 +1,5 @@
 // The 64 bytes of a segment's header: sound by themselves, and with an id that may follow.
 ghost use mathlib.Core.Path.{_≡_};
-ghost use lib.Dec.{leb};
 ghost use lib.ListN.{length};
 ghost use Rattle.segment.specs.Header.{headSound};
 ghost use Rattle.octets.specs.numbers.Numbers.{leastNext};

@@ -43,22 +43,22 @@ room-more (suc (suc k)) n h q =
     (omega arith, rw e (omega arith))
 
 -- where a loop over the bytes of x stands: d are passed, and rest is what is left of x
-pub record ReadSoFar (x d rest : ℕ) : Type 0 where
+pub record WrittenSoFar (x d rest : ℕ) : Type 0 where
   pub at-most : d ≤ 9
   pub left : drop d (varintOf x) ≡ leb128 (10 - d) rest
   pub room : rest < 128 ^ (10 - d)
 
-pub stands-first : (x : ℕ) → x < 2 ^ 64 → ReadSoFar x 0 x
+pub stands-first : (x : ℕ) → x < 2 ^ 64 → WrittenSoFar x 0 x
 unfolding varintOf
 stands-first x h = record { at-most = omega arith; left = refl; room = omega arith }
 
-pub stands-byte : (x d rest : ℕ) → ReadSoFar x d rest → 128 ≤ rest → Goes (varintOf x) d (rest % 128 + 128) (leb128 (9 - d) (rest / 128))
+pub stands-byte : (x d rest : ℕ) → WrittenSoFar x d rest → 128 ≤ rest → Goes (varintOf x) d (rest % 128 + 128) (leb128 (9 - d) (rest / 128))
 stands-byte x d rest s h =
     let at-most = s .at-most in
     let e : 10 - d ≡ suc (9 - d) = omega arith in
     goes (varintOf x) d _ _ ((rw e at (s .left)) ∙ leb-more (9 - d) rest h)
 
-pub stands-more : (x d rest : ℕ) → ReadSoFar x d rest → 128 ≤ rest → ReadSoFar x (d + 1) (rest / 128)
+pub stands-more : (x d rest : ℕ) → WrittenSoFar x d rest → 128 ≤ rest → WrittenSoFar x (d + 1) (rest / 128)
 stands-more x d rest s h =
     let at-most = s .at-most in
     let r = room-more (10 - d) rest h (s .room) in
@@ -66,7 +66,7 @@ stands-more x d rest s h =
     let f : 10 - d - 1 ≡ 9 - d = omega arith in
     record { at-most = omega (arith, r .0); left = rw (e, add-one) (stands-byte x d rest s h .on); room = rw e (rw f at (r .1)) }
 
-pub stands-last : (x d rest : ℕ) → ReadSoFar x d rest → rest < 128 → Goes (varintOf x) d rest []
+pub stands-last : (x d rest : ℕ) → WrittenSoFar x d rest → rest < 128 → Goes (varintOf x) d rest []
 stands-last x d rest s h =
     let at-most = s .at-most in
     let e : 10 - d ≡ suc (9 - d) = omega arith in

@@ -2,9 +2,8 @@
 // repeat, and the last copy counts.
 ghost use mathlib.Core.Path.{_≡_};
 ghost use Prim.Native.Nat.{_+_, _*_, _≤_};
-ghost use lib.ListN.{length, take};
+ghost use lib.ListN.{length};
 ghost use Rattle.vecseg.specs.Payload.{checkOf};
-ghost use Rattle.octets.specs.numbers.Numbers.{indexOf, indexAnswer};
 ghost use Rattle.vecseg.specs.Find.{findIn};
 ghost use Rattle.vec_read.specs.find.Found.{foundOf};
 ghost use Rattle.answers.specs.limits.Limits.{maxVectors};

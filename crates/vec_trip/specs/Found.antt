@@ -20,7 +20,8 @@ use Rattle.idmap.specs.Trip.{Words, read-back}
 use Rattle.vecseg.specs.Payload.{width, columnsLength, blockCount}
 use Rattle.vecseg.specs.Find.{lineAt, idsAt, findUpTo, findIn}
 use Rattle.octets.specs.numbers.Numbers.{indexOf}
-use Rattle.vecseg.specs.Writer.{vecBad, vecBytes, blockBytes, padding}
+use Rattle.vecseg.specs.Writer.{vecBad, vecBytes, blockBytes}
+use Rattle.octets.specs.Round.{padding}
 use Rattle.vecseg.specs.WriterLaws.{accepted}
 use Rattle.vec_trip.specs.Shape.{lineFor, one-block, line-is, block-at}
 use Rattle.vec_trip.specs.Sound.{map-at}

@@ -14,7 +14,8 @@ use Rattle.octets.specs.ZeroLaws.{zeros-all}
 use Rattle.octets.specs.le.Le.{leOf, leBytes}
 use Rattle.octets.specs.le.Laws.{leOf-leBytes}
 use Rattle.vecseg.specs.Payload.{Line, lineOf, blockCount, filled}
-use Rattle.vecseg.specs.Writer.{padding, directory}
+use Rattle.octets.specs.Round.{padding}
+use Rattle.vecseg.specs.Writer.{directory}
 use Rattle.vecseg.specs.Laid.{length-directory, length-front}
 
 -- the line of the block that a writer writes

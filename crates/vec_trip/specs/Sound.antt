@@ -21,8 +21,9 @@ use Rattle.idmap.specs.Decode.{Whole, mapOf}
 use Rattle.idmap.specs.Accepted.{good}
 use Rattle.idmap.specs.Trip.{Words, read-back}
 use Rattle.vecseg.specs.Payload.{Line, lineOf, width, lineBad, firstOf, linesBad, columnsLength, filled, SoundBlock, blockEnd, blockMap, blockOf, blocksBad, blockCount, bodyBad, checkOf}
-use Rattle.vecseg.specs.Writer.{vecBad, vecBytes, blockBytes, padding}
-use Rattle.vecseg.specs.WriterLaws.{Accepted, accepted}
+use Rattle.vecseg.specs.Writer.{vecBad, vecBytes, blockBytes}
+use Rattle.octets.specs.Round.{padding}
+use Rattle.vecseg.specs.WriterLaws.{WriterAccepts, accepted}
 use Rattle.vecseg.specs.Laid.{length-block, length-payload}
 use Rattle.vec_trip.specs.MapBytes.{map-bytes}
 use Rattle.vec_trip.specs.Shape.{lineFor, one-block, line-is, block-at, fill-is}
@@ -74,7 +75,7 @@ block-sound l ids columns map c p e m ec sum z =
 
 -- ---- the payload
 
-line-good : (ids columns : List ℕ) (dim dtype tier encoding interval : ℕ) → Accepted ids columns dim dtype tier encoding interval → 1 ≤ length ids
+line-good : (ids columns : List ℕ) (dim dtype tier encoding interval : ℕ) → WriterAccepts ids columns dim dtype tier encoding interval → 1 ≤ length ids
     → lineBad (lineFor (length ids) dim dtype tier) ≡ 0
 unfolding lineBad lineFor
 line-good ids columns dim dtype tier encoding interval g one =

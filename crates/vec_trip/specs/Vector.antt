@@ -12,7 +12,8 @@ use Rattle.crc32c.specs.Crc.{crcOf}
 use Rattle.idmap.specs.Encode.{mapBytes}
 use Rattle.vecseg.specs.Payload.{width}
 use Rattle.vecseg.specs.Find.{valueAt, valuesFrom, vectorOf}
-use Rattle.vecseg.specs.Writer.{vecBad, vecBytes, blockBytes, padding}
+use Rattle.vecseg.specs.Writer.{vecBad, vecBytes, blockBytes}
+use Rattle.octets.specs.Round.{padding}
 use Rattle.vecseg.specs.WriterLaws.{accepted}
 use Rattle.vec_trip.specs.Shape.{lineFor, block-at}
 

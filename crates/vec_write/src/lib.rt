@@ -4,7 +4,6 @@ pub mod parts;
 
 ghost use mathlib.Core.Path.{_≡_};
 ghost use Prim.Native.Nat.{_+_, _<_};
-ghost use lib.ListN.{length};
 ghost use Rattle.answers.specs.Write.{writeAnswer, writeBuffer};
 ghost use Rattle.vecseg.specs.Writer.{vecBad, vecBytes};
 use answers::Wrote;

@@ -4,9 +4,9 @@ ghost use mathlib.Core.List.{_++_};
 ghost use Prim.Native.Nat.{_+_, _≤_, _<_};
 ghost use lib.ListN.{length};
 ghost use Rattle.octets.specs.Over.{over};
-ghost use Rattle.octets.specs.Round.{round64};
+ghost use Rattle.octets.specs.Round.{round64, padding};
 ghost use Rattle.idmap.specs.Encode.{mapBytes, mapBad};
-ghost use Rattle.vecseg.specs.Writer.{blockBytes, padding, directory};
+ghost use Rattle.vecseg.specs.Writer.{blockBytes, directory};
 
 // The directory of one block, which begins at 64.
 pub fn put_directory(buf: &mut [u8], count: u64, dim: u64, dtype: u64, tier: u64)

@@ -16,7 +16,8 @@ use Rattle.octets.specs.le.Le.{leBytes}
 use Rattle.octets.specs.le.Laws.{length-leBytes}
 use Rattle.crc32c.specs.Crc.{crcOf}
 use Rattle.idmap.specs.Encode.{mapBytes}
-use Rattle.vecseg.specs.Writer.{vecBytes, blockBytes, padding, directory}
+use Rattle.vecseg.specs.Writer.{vecBytes, blockBytes, directory}
+use Rattle.octets.specs.Round.{padding}
 
 -- ---- lengths
 

@@ -1,11 +1,11 @@
 -- The one-block vector writer of document 01's 'The batch sheet and appending': what it refuses, and the payload it writes.
 -- Assumes nothing.
-use Prim.Native.Nat.{ℕ, _-_, _*_}
+use Prim.Native.Nat.{ℕ, _*_}
 use mathlib.Core.Bool.{cond, _&&_}
 use mathlib.Core.List.{List, [], _∷_, _++_}
 use lib.Dec.{eqb, leb, ltb}
-use lib.ListN.{length, replicate}
-use Rattle.octets.specs.Round.{round64}
+use lib.ListN.{length}
+use Rattle.octets.specs.Round.{padding}
 use Rattle.octets.specs.le.Le.{leBytes}
 use Rattle.answers.specs.limits.Limits.{maxDim}
 use Rattle.crc32c.specs.Crc.{crcOf}
@@ -21,10 +21,6 @@ vecBad ids columns dim dtype tier encoding interval =
 -- the block: columns, id map, checksum of both
 unfoldable pub blockBytes : List ℕ → List ℕ → List ℕ
 blockBytes columns map = (columns ++ map) ++ leBytes 4 (crcOf (columns ++ map))
-
--- zeros behind n bytes to the next multiple of 64
-unfoldable pub padding : ℕ → List ℕ
-padding n = replicate (round64 n - n) 0
 
 -- one line of the directory, whose block begins at 64
 unfoldable pub directory : ℕ → ℕ → ℕ → ℕ → List ℕ

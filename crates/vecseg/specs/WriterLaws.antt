@@ -17,7 +17,7 @@ use Rattle.vecseg.specs.Writer.{vecBad}
 
 -- ---- accepted
 
-pub record Accepted (ids columns : List ℕ) (dim dtype tier encoding interval : ℕ) : Type 0 where
+pub record WriterAccepts (ids columns : List ℕ) (dim dtype tier encoding interval : ℕ) : Type 0 where
   pub held : 0 < width dtype
   pub low : 1 ≤ dim
   pub high : dim ≤ 1024
@@ -27,13 +27,13 @@ pub record Accepted (ids columns : List ℕ) (dim dtype tier encoding interval :
   pub most : length ids ≤ 4096
 
 pub accepted : (ids columns : List ℕ) (dim dtype tier encoding interval : ℕ) → vecBad ids columns dim dtype tier encoding interval ≡ 0
-    → Accepted ids columns dim dtype tier encoding interval
+    → WriterAccepts ids columns dim dtype tier encoding interval
 unfolding vecBad
 accepted ids columns dim dtype tier encoding interval ok =
     pick (ltb 0 (width dtype) && leb 1 dim && leb dim maxDim && ltb tier 256 && eqb (length columns) (length ids * dim * width dtype)) refl ok
   where
     pick : (t : Bool) → ltb 0 (width dtype) && leb 1 dim && leb dim maxDim && ltb tier 256 && eqb (length columns) (length ids * dim * width dtype) ≡ t
-        → cond t (mapBad ids encoding interval) 14 ≡ 0 → Accepted ids columns dim dtype tier encoding interval
+        → cond t (mapBad ids encoding interval) 14 ≡ 0 → WriterAccepts ids columns dim dtype tier encoding interval
     pick false p q = absurd (let z : _≡_ {A = ℕ} 14 0 = q in omega arith)
     pick true p q =
         let a = and-split _ _ p in

@@ -24,7 +24,7 @@ use Rattle.appending.specs.Retire.{retireHeld}
 use Rattle.appending.specs.Append.{keptLinks, startOf, nextId, oldLinks, oldStates, bodiesEnd, manifestAt, manifestId, newCount, newEnd, vectorsBad, answerOn, appendAnswer, Appends}
 use Rattle.appending.specs.Accepts.{Fits, accepts}
 use Rattle.appending.specs.Opens.{fileWith}
-use Rattle.appending.specs.Buffer.{Appended, appended, file-is, next-start, next-next, next-count}
+use Rattle.appending.specs.Buffer.{AppendedBy, appended, file-is, next-start, next-next, next-count}
 use Rattle.worked.specs.Batches.{noBodies, oneBody}
 
 -- to unfold this is to unfold what the line names
@@ -146,7 +146,7 @@ module _ (body : List ℕ) (length-is : length body ≡ 100) where
   -- ---- and an empty batch after it
 
   module _ (ts : ℕ) (h : ts < 2 ^ 64) (old new vs : List ℕ) (a : Appends old 0 (oneBody body) [] ts (Accepted vs) new) where
-    w : Appended [] old (oneBody body) [] ts vs new
+    w : AppendedBy [] old (oneBody body) [] ts vs new
     w = appended [] old (oneBody body) [] ts (λ l. refl) vs new a
 
     -- the file after the first call

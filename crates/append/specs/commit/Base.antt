@@ -30,7 +30,7 @@ use Rattle.appending.specs.Append.{keptLinks, startOf, nextId, bodyLinks, bodyB
 use Rattle.appending.specs.Written.{BodyHeld, bodies-exact, bodies-length, bodyLinks-length}
 use Rattle.appending.specs.Opens.{kept}
 use Rattle.appending.specs.Buffer.{kept-is}
-use Rattle.append.specs.commit.Commit.{nextOf}
+use Rattle.append.specs.commit.Commit.{nextIdOf}
 
 -- g is the bytes up to the start
 pub record Base (g offsets : List ℕ) (begin kept-count : ℕ) (first : Bool) (last-id : ℕ) : Type 0 where
@@ -39,7 +39,7 @@ pub record Base (g offsets : List ℕ) (begin kept-count : ℕ) (first : Bool) (
   pub at-most : kept-count ≤ 1025
   pub start-is : startOf (opened g) ≡ begin
   pub count-is : length (keptLinks (opened g)) ≡ kept-count
-  pub next-is : nextId (opened g) ≡ nextOf first last-id
+  pub next-is : nextId (opened g) ≡ nextIdOf first last-id
   pub offsets-are : take kept-count offsets ≡ offsetsOf (keptLinks (opened g))
 
 -- ---- opening what is kept finds the same

@@ -25,9 +25,9 @@ use Rattle.appending.specs.Append.{keptLinks, startOf, nextId, bodyBytes, bodie
 use Rattle.appending.specs.declared.Appended.the-variants.{At, Refused}
 
 -- ids go on from the last one, or from 0
-unfoldable pub nextOf : Bool → ℕ → ℕ
-nextOf true last = 0
-nextOf false last = last + 1
+unfoldable pub nextIdOf : Bool → ℕ → ℕ
+nextIdOf true last = 0
+nextIdOf false last = last + 1
 
 -- 'entries above 1,024 12; ids 13; new end above the limit 1; above the buffer 9'
 unfoldable pub commitChecks : ℕ → Option (Found Link) → List Body → List Check
@@ -57,33 +57,33 @@ commitBuffer o old bs states ts = bufferWith o old bs (take (newCount o bs) stat
 
 -- the next id, and whether the new manifest's would pass the largest number
 module _ (first : Bool) (last : ℕ) where
-  pub next-first : first ≡ true → 0 ≡ nextOf first last
-  unfolding nextOf
+  pub next-first : first ≡ true → 0 ≡ nextIdOf first last
+  unfolding nextIdOf
   next-first e = rw e
 
-  pub next-later : first ≡ false → last + 1 ≡ nextOf first last
-  unfolding nextOf
+  pub next-later : first ≡ false → last + 1 ≡ nextIdOf first last
+  unfolding nextIdOf
   next-later e = rw e
 
-  pub over-first : (m : ℕ) → first ≡ true → m ≤ 16 → false ≡ ltb (2 ^ 64 - 1) (nextOf first last + m)
+  pub over-first : (m : ℕ) → first ≡ true → m ≤ 16 → false ≡ ltb (2 ^ 64 - 1) (nextIdOf first last + m)
   over-first m e h =
       let z = next-first e in
-      let l : nextOf first last + m ≤ 2 ^ 64 - 1 = omega arith in
-      sym (le-ltb (2 ^ 64 - 1) (nextOf first last + m) l)
+      let l : nextIdOf first last + m ≤ 2 ^ 64 - 1 = omega arith in
+      sym (le-ltb (2 ^ 64 - 1) (nextIdOf first last + m) l)
 
-  pub over-later : (m : ℕ) → first ≡ false → last < 2 ^ 64 → leb (2 ^ 64 - 1 - last) m ≡ ltb (2 ^ 64 - 1) (nextOf first last + m)
+  pub over-later : (m : ℕ) → first ≡ false → last < 2 ^ 64 → leb (2 ^ 64 - 1 - last) m ≡ ltb (2 ^ 64 - 1) (nextIdOf first last + m)
   over-later m e h = go (decLe (2 ^ 64 - 1 - last) m)
     where
-      go : Dec (2 ^ 64 - 1 - last ≤ m) → leb (2 ^ 64 - 1 - last) m ≡ ltb (2 ^ 64 - 1) (nextOf first last + m)
+      go : Dec (2 ^ 64 - 1 - last ≤ m) → leb (2 ^ 64 - 1 - last) m ≡ ltb (2 ^ 64 - 1) (nextIdOf first last + m)
       go (yes q) =
           let z = next-later e in
-          let l : 2 ^ 64 - 1 < nextOf first last + m = omega arith in
-          le-leb (2 ^ 64 - 1 - last) m q ∙ sym (lt-ltb (2 ^ 64 - 1) (nextOf first last + m) l)
+          let l : 2 ^ 64 - 1 < nextIdOf first last + m = omega arith in
+          le-leb (2 ^ 64 - 1 - last) m q ∙ sym (lt-ltb (2 ^ 64 - 1) (nextIdOf first last + m) l)
       go (no q) =
           let z = next-later e in
           let p = lt-of-not-le q in
-          let l : nextOf first last + m ≤ 2 ^ 64 - 1 = omega arith in
-          lt-leb (2 ^ 64 - 1 - last) m p ∙ sym (le-ltb (2 ^ 64 - 1) (nextOf first last + m) l)
+          let l : nextIdOf first last + m ≤ 2 ^ 64 - 1 = omega arith in
+          lt-leb (2 ^ 64 - 1 - last) m p ∙ sym (le-ltb (2 ^ 64 - 1) (nextIdOf first last + m) l)
 
 module _ (o : Option (Found Link)) (old : List ℕ) (bs : List Body) (states : List ℕ) (ts : ℕ) where
   refused : (n : ℕ) → commitAnswer (length old) o bs ≡ Refusal n [] → (appendedAnswer (Refused n) ≡ commitAnswer (length old) o bs) × (old ≡ commitBuffer o old bs states ts)

@@ -29,7 +29,7 @@ use Rattle.batch.specs.Form.{Body, lineSize, lineLength, lineHeld, linesHeld, b
 use Rattle.batch.specs.Lines.{bodies-count, begins-inside, held-bounds}
 use Rattle.appending.specs.Append.{startOf, nextId, bodyLinks, bodyBytes, bodiesEnd, manifestAt, manifestId, newCount, newLinks}
 use Rattle.appending.specs.Written.{bodies-held, bodies-length}
-use Rattle.append.specs.commit.Commit.{nextOf, bytesWith, count-number, id-number, at-number}
+use Rattle.append.specs.commit.Commit.{nextIdOf, bytesWith, count-number, id-number, at-number}
 use Rattle.append.specs.commit.Base.{Base, new-inside, new-payload, buffer-front, all-written}
 
 -- ---- the bodies take little more than the batch
@@ -60,7 +60,7 @@ bodies-most batch start e h =
 -- ---- what is written
 
 module _ (old offsets batch : List ℕ) (begin kept-count : ℕ) (first : Bool) (last-id : ℕ) (y : Base (take begin old) offsets begin kept-count first last-id)
-    (held : batchHeld batch ≡ true) (ts : ℕ) (ts-fits : ts < 2 ^ 64) (next m : ℕ) (n-is : next ≡ nextOf first last-id) (m-is : m ≡ bodyCount batch) (ids-fit : next + m < 2 ^ 64)
+    (held : batchHeld batch ≡ true) (ts : ℕ) (ts-fits : ts < 2 ^ 64) (next m : ℕ) (n-is : next ≡ nextIdOf first last-id) (m-is : m ≡ bodyCount batch) (ids-fit : next + m < 2 ^ 64)
     (at : ℕ) (at-is : at ≡ bodiesEnd begin (bodiesOf batch)) (at-fits : at ≤ maxFile) (room : at ≤ length old) (many : kept-count + m ≤ length offsets)
     (buf os : List ℕ) (laid : buf ≡ over old begin (bodyBytes next ts (bodiesOf batch)))
     (stored : os ≡ over offsets kept-count (offsetsOf (bodyLinks begin next ts (bodiesOf batch)))) where

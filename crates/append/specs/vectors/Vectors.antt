@@ -18,20 +18,20 @@ use Rattle.batch.specs.Lines.{noBody, BodyAt}
 use Rattle.appending.specs.Append.{vectorsBad}
 
 -- the number that refuses a body, 0 where none does
-unfoldable pub bodyBad : Body → ℕ
-bodyBad b = cond (eqb (b .kind) vecKind) (checkOf (b .payload)) 0
+unfoldable pub bodyNumber : Body → ℕ
+bodyNumber b = cond (eqb (b .kind) vecKind) (checkOf (b .payload)) 0
 
 -- ---- the ways out of the check of body j
 
 module _ (s : List ℕ) (j : ℕ) (b : BodyAt s j) where
-  pub body-other : (getD s (16 + 16 * j) 0 ≡ vecKind → ⊥) → 0 ≡ bodyBad (getD (bodiesOf s) j noBody)
-  unfolding bodyBad
+  pub body-other : (getD s (16 + 16 * j) 0 ≡ vecKind → ⊥) → 0 ≡ bodyNumber (getD (bodiesOf s) j noBody)
+  unfolding bodyNumber
   body-other n = rw (ne-eqb (getD (bodiesOf s) j noBody .kind) vecKind (λ e. n (sym (b .kind-is) ∙ e)))
 
   -- the body's bytes, as the code takes them out of the batch: `from` and `len` are what it has read
   pub body-checked : getD s (16 + 16 * j) 0 ≡ vecKind → (from len r : ℕ) → from ≡ leAt 4 s (16 + 16 * j + 4) → len ≡ leAt 4 s (16 + 16 * j + 8)
-      → r ≡ checkOf (take (from + len - from) (drop from s)) → r ≡ bodyBad (getD (bodiesOf s) j noBody)
-  unfolding bodyBad
+      → r ≡ checkOf (take (from + len - from) (drop from s)) → r ≡ bodyNumber (getD (bodiesOf s) j noBody)
+  unfolding bodyNumber
   body-checked e from len r f l c =
       let cut : from + len - from ≡ len = omega arith in
       let p : take (from + len - from) (drop from s) ≡ getD (bodiesOf s) j noBody .payload = rw (cut, f, l) (sym (b .payload-is)) in
@@ -47,14 +47,14 @@ pub vectors-first : (bs : List Body) → VectorsAt bs 0
 vectors-first bs = record { at-most = omega arith; same = refl }
 
 module _ (bs : List Body) (i : ℕ) (st : VectorsAt bs i) (h : i < length bs) where
-  turn : vectorsBad (drop i bs) ≡ firstOf (bodyBad (getD bs i noBody)) (vectorsBad (drop (i + 1) bs))
-  unfolding vectorsBad bodyBad
+  turn : vectorsBad (drop i bs) ≡ firstOf (bodyNumber (getD bs i noBody)) (vectorsBad (drop (i + 1) bs))
+  unfolding vectorsBad bodyNumber
   turn = rw (add-one, drop-cons bs i noBody h)
 
-  pub vectors-next : bodyBad (getD bs i noBody) ≡ 0 → VectorsAt bs (i + 1)
+  pub vectors-next : bodyNumber (getD bs i noBody) ≡ 0 → VectorsAt bs (i + 1)
   vectors-next z = record { at-most = omega arith; same = sym (first-none _ _ z) ∙ sym turn ∙ st .same }
 
-  pub vectors-stop : (r : ℕ) → r ≡ bodyBad (getD bs i noBody) → (r ≡ 0 → ⊥) → r ≡ vectorsBad bs
+  pub vectors-stop : (r : ℕ) → r ≡ bodyNumber (getD bs i noBody) → (r ≡ 0 → ⊥) → r ≡ vectorsBad bs
   vectors-stop r e nz = e ∙ sym (first-bad _ _ (λ z. nz (e ∙ z))) ∙ sym turn ∙ st .same
 
 pub vectors-last : (bs : List Body) (i : ℕ) → VectorsAt bs i → length bs ≤ i → 0 ≡ vectorsBad bs

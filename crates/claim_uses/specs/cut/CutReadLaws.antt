@@ -10,7 +10,7 @@ use mathlib.Core.List.{List, [], _∷_}
 use lib.ListN.{length, take, getD}
 use Rattle.manifest.specs.declared.Opened.the-variants.{Refused, At, NoManifest}
 use Rattle.appending.specs.Append.{appendBuffer, Appends, appendedAnswer, startOf, manifestAt, newEnd, Holds}
-use Rattle.appending.specs.Buffer.{Appended, appended}
+use Rattle.appending.specs.Buffer.{AppendedBy, appended}
 use Rattle.append.specs.AppendLaws.{way-room}
 use Rattle.claim_uses.specs.declared.cut.CutRead.the-variants.{NotAppended, Read, NotCut}
 use native.Mathlib.Omega.{arith}
@@ -71,7 +71,7 @@ module _ (old : List ℕ) (n : ℕ) (batch ids : List ℕ) (ts : ℕ) (end i cou
   appends : Appends old (length (take n old)) batch ids ts (Accepted (end ∷ i ∷ count ∷ [])) new
   appends = subst (λ (m : ℕ). Appends old m batch ids ts (Accepted (end ∷ i ∷ count ∷ [])) new) (sym file-length) accepts
 
-  did : Appended (take n old) old batch ids ts (end ∷ i ∷ count ∷ []) new
+  did : AppendedBy (take n old) old batch ids ts (end ∷ i ∷ count ∷ []) new
   did = appended (take n old) old batch ids ts held (end ∷ i ∷ count ∷ []) new appends
 
   end-is : end ≡ newEnd (opened (take n old)) (bodiesOf batch)

@@ -1,13 +1,13 @@
 -- `confirm::is_confirmed` meets its contract: cheap tests, then the payload written anew.
 -- Assumes nothing.
-use Prim.Native.Nat.{ℕ, _+_, _*_, _≤_, _<_}
+use Prim.Native.Nat.{ℕ, _+_, _*_, _<_}
 use mathlib.Core.Path.{_≡_, sym, ap, _∙_}
 use native.Mathlib.Omega.{arith}
-use lib.ListN.{length, take, length-replicate}
+use lib.ListN.{length, take}
 use lib.Seq.{length-take-le}
 use Rattle.octets.specs.Round.{round64}
 use Rattle.manifest.specs.Sized.{recordBy}
-use Rattle.manifest.specs.Payload.{payloadLength, recordEnd}
+use Rattle.manifest.specs.Payload.{payloadLength}
 use Rattle.confirm.specs.states.At.{confirmedAt}
 use Rattle.confirm.specs.states.Steps.{other-kind, too-many, other-length}
 use borrow.Author.Needs.{needs}

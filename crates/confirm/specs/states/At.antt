@@ -25,8 +25,8 @@ statesHeldAt f (o ∷ os) (s ∷ ss) = stateOf (kindAt f o) s && statesHeldAt f 
 abbrev pub payloadIn : List ℕ → ℕ → ℕ → List ℕ
 payloadIn f at len = take len (drop (at + 64) f)
 
-abbrev pub statesOf : List ℕ → List ℕ → ℕ → ℕ → List ℕ
-statesOf f os at len = statesIn (length os) (drop 8 (payloadIn f at len))
+abbrev pub statesReadAt : List ℕ → List ℕ → ℕ → ℕ → List ℕ
+statesReadAt f os at len = statesIn (length os) (drop 8 (payloadIn f at len))
 
 -- what the test asks, in one place: the type, the count, the hash, the states, the payload and what it must be
 abbrev pub verdict : ℕ → ℕ → Bool → Bool → List ℕ → List ℕ → Bool
@@ -34,4 +34,4 @@ verdict kind count whole held payload wanted = eqb kind manifestKind && leb coun
 
 unfoldable pub confirmedAt : List ℕ → List ℕ → ℕ → ℕ → ℕ → ℕ → Bool
 confirmedAt f os at len kind id =
-    verdict kind (length os) (wholeAt f at len) (statesHeldAt f os (statesOf f os at len)) (payloadIn f at len) (payloadAt f os (statesOf f os at len) at id)
+    verdict kind (length os) (wholeAt f at len) (statesHeldAt f os (statesReadAt f os at len)) (payloadIn f at len) (payloadAt f os (statesReadAt f os at len) at id)

@@ -19,7 +19,7 @@ use Rattle.segment.specs.Search.{Placed}
 use Rattle.manifest.specs.Payload.{stateHeld, statesHeld, statesIn, manifestPayload, confirmed}
 use Rattle.manifest.specs.At.{Inside, payloadAt}
 use Rattle.manifest.specs.Lying.{Lying, lying-inside, payload-lying, chain-lying}
-use Rattle.confirm.specs.states.At.{stateOf, statesHeldAt, payloadIn, statesOf, verdict, confirmedAt}
+use Rattle.confirm.specs.states.At.{stateOf, statesHeldAt, payloadIn, statesReadAt, verdict, confirmedAt}
 
 -- the type that stands in a link's header
 lying-kind : (f : List ℕ) (l : Link) → Lying f l → kindAt f (l .offset) ≡ l .kind
@@ -58,23 +58,23 @@ module _ (f : List ℕ) (at : ℕ) (b : List Link) (l : Link) (z : List Link) (p
       let n : length os ≡ length b = ap length (sym e) ∙ length-map b (λ l. l .offset) in
       let len : ℕ = length (l .payload) in
       let ss : List ℕ = statesIn (length b) (drop 8 (l .payload)) in
-      let s : statesOf f os at (length (l .payload)) ≡ statesIn (length b) (drop 8 (l .payload)) =
+      let s : statesReadAt f os at (length (l .payload)) ≡ statesIn (length b) (drop 8 (l .payload)) =
       ap (λ (c : ℕ). statesIn c (drop 8 (payloadIn f at (length (l .payload))))) n ∙ ap (λ (x : List ℕ). statesIn (length b) (drop 8 x)) payload-is in
-      let held : statesHeldAt f os (statesOf f os at (length (l .payload))) ≡ statesHeld b (statesIn (length b) (drop 8 (l .payload))) =
+      let held : statesHeldAt f os (statesReadAt f os at (length (l .payload))) ≡ statesHeld b (statesIn (length b) (drop 8 (l .payload))) =
       ap (statesHeldAt f os) s ∙ ap (λ (x : List ℕ). statesHeldAt f x (statesIn (length b) (drop 8 (l .payload)))) (sym e)
       ∙ states-lying f b (statesIn (length b) (drop 8 (l .payload))) before-lying in
-      let wanted : payloadAt f os (statesOf f os at (length (l .payload))) at (l .id)
+      let wanted : payloadAt f os (statesReadAt f os at (length (l .payload))) at (l .id)
       ≡ manifestPayload b (statesIn (length b) (drop 8 (l .payload))) (l .offset) (l .id) =
       ap (λ (x : List ℕ). payloadAt f os x at (l .id)) s
       ∙ ap (λ (x : List ℕ). payloadAt f x (statesIn (length b) (drop 8 (l .payload))) at (l .id)) (sym e)
       ∙ payload-lying f b (statesIn (length b) (drop 8 (l .payload))) at (l .id) t before-lying
       ∙ ap (λ (o : ℕ). manifestPayload b (statesIn (length b) (drop 8 (l .payload))) o (l .id)) (sym (link-place f b z l (p .split) ∙ p .place)) in
-      ap (λ (c : ℕ). verdict (l .kind) c (wholeAt f at (length (l .payload))) (statesHeldAt f os (statesOf f os at (length (l .payload))))
-      (payloadIn f at (length (l .payload))) (payloadAt f os (statesOf f os at (length (l .payload))) at (l .id))) n
-      ∙ ap (λ (w : Bool). verdict (l .kind) (length b) w (statesHeldAt f os (statesOf f os at (length (l .payload))))
-      (payloadIn f at (length (l .payload))) (payloadAt f os (statesOf f os at (length (l .payload))) at (l .id)))
+      ap (λ (c : ℕ). verdict (l .kind) c (wholeAt f at (length (l .payload))) (statesHeldAt f os (statesReadAt f os at (length (l .payload))))
+      (payloadIn f at (length (l .payload))) (payloadAt f os (statesReadAt f os at (length (l .payload))) at (l .id))) n
+      ∙ ap (λ (w : Bool). verdict (l .kind) (length b) w (statesHeldAt f os (statesReadAt f os at (length (l .payload))))
+      (payloadIn f at (length (l .payload))) (payloadAt f os (statesReadAt f os at (length (l .payload))) at (l .id)))
       (sym (whole-link f (afters reader start b) at l reads))
-      ∙ ap (λ (h : Bool). verdict (l .kind) (length b) (whole l) h (payloadIn f at (length (l .payload))) (payloadAt f os (statesOf f os at (length (l .payload))) at (l .id))) held
+      ∙ ap (λ (h : Bool). verdict (l .kind) (length b) (whole l) h (payloadIn f at (length (l .payload))) (payloadAt f os (statesReadAt f os at (length (l .payload))) at (l .id))) held
       ∙ ap (λ (x : List ℕ). verdict (l .kind) (length b) (whole l) (statesHeld b (statesIn (length b) (drop 8 (l .payload)))) x
-      (payloadAt f os (statesOf f os at (length (l .payload))) at (l .id))) payload-is
+      (payloadAt f os (statesReadAt f os at (length (l .payload))) at (l .id))) payload-is
       ∙ ap (verdict (l .kind) (length b) (whole l) (statesHeld b (statesIn (length b) (drop 8 (l .payload)))) (l .payload)) wanted

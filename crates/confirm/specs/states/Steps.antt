@@ -8,18 +8,20 @@ use native.Mathlib.Numerals.{add-one}
 use native.Mathlib.Omega.{arith}
 use lib.ListN.{length, take, drop, getD, set, length-set, length-drop, drop-of-length-le}
 use lib.Seq.{drop-cons, getD-drop, length-take-le}
+use lib.Dec.{eqb, leb}
 use borrow.Author.Tests.{ne-eqb, lt-leb, le-leb}
 use Rattle.octets.specs.Over.{over}
 use Rattle.octets.specs.OverLaws.{over-none, over-front, over-at}
 use Rattle.octets.specs.Round.{round64}
 use Rattle.octets.specs.Zero.{sameBytes}
 use Rattle.octets.specs.ZeroLaws.{same-length}
+use Rattle.answers.specs.limits.Limits.{maxEntries}
 use Rattle.segment.specs.Step.{wholeAt}
 use Rattle.manifest.specs.Sized.{recordBy, statesBy}
 use Rattle.manifest.specs.SizedLaws.{length-statesBy, statesBy-more}
-use Rattle.manifest.specs.Payload.{entrySize, statesIn, payloadLength, entriesEnd}
+use Rattle.manifest.specs.Payload.{manifestKind, entrySize, statesIn, payloadLength, entriesEnd}
 use Rattle.manifest.specs.At.{Inside, payloadAt, length-payloadAt, record-ge}
-use Rattle.confirm.specs.states.At.{stateOf, statesHeldAt, payloadIn, statesOf, confirmedAt}
+use Rattle.confirm.specs.states.At.{stateOf, statesHeldAt, payloadIn, statesReadAt, verdict, confirmedAt}
 use Rattle.segment.specs.Header.{kindAt}
 
 -- ---- the states, read off a payload
@@ -83,6 +85,12 @@ module _ (f os ss : List ℕ) (same : length ss ≡ length os) where
 
 -- ---- the ways out
 
+-- a link that is not whole is not confirmed, whatever else holds of it
+none-whole : (kind room held same : Bool) → (((kind && room) && false) && held) && same ≡ false
+none-whole true true held same = refl
+none-whole true false held same = refl
+none-whole false room held same = refl
+
 module _ (f os : List ℕ) (at len id : ℕ) where
   pub other-kind : (kind : ℕ) → (kind ≡ 5 → ⊥) → false ≡ confirmedAt f os at len kind id
   unfolding confirmedAt
@@ -100,20 +108,25 @@ module _ (f os : List ℕ) (at len id : ℕ) where
   unfolding confirmedAt
   other-length kind h t n =
       let a = payload-length h in
-      let b = length-payloadAt f os (statesOf f os at len) at id t in
-      rw (same-length (payloadIn f at len) (payloadAt f os (statesOf f os at len) at id) (λ e. n (sym a ∙ e ∙ b)), and-false)
+      let b = length-payloadAt f os (statesReadAt f os at len) at id t in
+      rw (same-length (payloadIn f at len) (payloadAt f os (statesReadAt f os at len) at id) (λ e. n (sym a ∙ e ∙ b)), and-false)
 
-  pub not-held : statesHeldAt f os (statesOf f os at len) ≡ false → false ≡ confirmedAt f os at len 5 id
+  pub not-held : statesHeldAt f os (statesReadAt f os at len) ≡ false → false ≡ confirmedAt f os at len 5 id
   unfolding confirmedAt
   not-held h = rw (h, and-false)
 
   pub not-whole : wholeAt f at len ≡ false → false ≡ confirmedAt f os at len 5 id
   unfolding confirmedAt
-  not-whole h = rw (h, and-false)
+  not-whole h =
+      let held = statesHeldAt f os (statesReadAt f os at len) in
+      let wanted = payloadAt f os (statesReadAt f os at len) at id in
+      sym
+      (ap (λ (whole : Bool). verdict 5 (length os) whole held (payloadIn f at len) wanted) h
+      ∙ none-whole (eqb 5 manifestKind) (leb (length os) maxEntries) held (sameBytes (payloadIn f at len) wanted))
 
   -- the payload is compared with the one written anew
-  pub by-payload : (r : Bool) → length os ≤ 1024 → statesHeldAt f os (statesOf f os at len) ≡ true → wholeAt f at len ≡ true
-      → r ≡ sameBytes (payloadIn f at len) (payloadAt f os (statesOf f os at len) at id) → r ≡ confirmedAt f os at len 5 id
+  pub by-payload : (r : Bool) → length os ≤ 1024 → statesHeldAt f os (statesReadAt f os at len) ≡ true → wholeAt f at len ≡ true
+      → r ≡ sameBytes (payloadIn f at len) (payloadAt f os (statesReadAt f os at len) at id) → r ≡ confirmedAt f os at len 5 id
   unfolding confirmedAt
   by-payload r n h w e = e ∙ rw (le-leb (length os) 1024 n, h, w)
 
@@ -151,13 +164,13 @@ module _ (f os : List ℕ) (at len : ℕ) where
       omega (arith, record-ge (length os))
 
   pub states-are : (s₀ s : List ℕ) → s ≡ over s₀ 0 (statesIn (length os) (drop 8 (take (at + 64 + len - (at + 64)) (drop (at + 64) f))))
-      → take (length os) s ≡ statesOf f os at len
+      → take (length os) s ≡ statesReadAt f os at len
   states-are s₀ s p =
       states-front s₀ s (take (at + 64 + len - (at + 64)) (drop (at + 64) f)) (length os) p ∙ ap (λ (x : List ℕ). statesIn (length os) (drop 8 x)) (part-is f at len)
 
-  pub compared : (buf b ss : List ℕ) (id : ℕ) (r : Bool) → Inside f os → len ≡ payloadLength (length os) → ss ≡ statesOf f os at len
+  pub compared : (buf b ss : List ℕ) (id : ℕ) (r : Bool) → Inside f os → len ≡ payloadLength (length os) → ss ≡ statesReadAt f os at len
       → b ≡ over buf 0 (payloadAt f os ss at id) → r ≡ sameBytes (take (at + 64 + len - (at + 64)) (drop (at + 64) f)) (take len b)
-      → r ≡ sameBytes (payloadIn f at len) (payloadAt f os (statesOf f os at len) at id)
+      → r ≡ sameBytes (payloadIn f at len) (payloadAt f os (statesReadAt f os at len) at id)
   compared buf b ss id r t e s p q =
       q
       ∙ ap (λ (x : List ℕ). sameBytes x (take len b)) (part-is f at len)

@@ -1,6 +1,6 @@
 -- `idmap_read::read_through` meets its contract, by what taking the map apart answers.
 -- Assumes nothing.
-use mathlib.Core.Path.{_≡_, sym, _∙_}
+use mathlib.Core.Path.{sym, _∙_}
 use native.Mathlib.Omega.{arith}
 use Rattle.idmap_read.specs.ReadLaws.{read-broken, read-short, read-done}
 use borrow.Author.Needs.{needs}

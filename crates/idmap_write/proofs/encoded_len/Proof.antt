@@ -1,7 +1,6 @@
 -- `idmap_write::encoded_len` meets its contract, by the encoding.
 -- Assumes nothing.
-use Prim.Native.Nat.{_≤_, _<_, _+_, _-_, _*_}
-use mathlib.Core.Path.{_≡_, sym, _∙_}
+use mathlib.Core.Path.{sym}
 use native.Mathlib.Omega.{arith}
 use Rattle.idmap.specs.Decode.{groups}
 use Rattle.idmap_write.specs.WriteLaws.{Raw, raw-facts, Delta, delta-facts}

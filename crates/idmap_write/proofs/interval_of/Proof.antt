@@ -1,6 +1,5 @@
 -- `idmap_write::interval_of` meets its contract.
 -- Assumes nothing.
-use mathlib.Core.Path.{_≡_, refl}
 use borrow.Author.Tests.{ne-eqb}
 use Rattle.idmap.specs.Encode.{intervalOf}
 use Rattle.idmap_write.proofs.interval_of.Statement.{statement}

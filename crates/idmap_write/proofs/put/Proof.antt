@@ -1,9 +1,6 @@
 -- `idmap_write::put` meets its contract, by the encoding: the head, and the body right behind it.
 -- Assumes nothing.
-use Prim.Native.Nat.{_≤_, _<_, _+_, _-_, _*_}
-use mathlib.Core.Path.{_≡_, sym, ap, _∙_}
 use native.Mathlib.Omega.{arith}
-use lib.ListN.{length}
 use Rattle.idmap.specs.Decode.{groups}
 use Rattle.idmap.specs.EncodeLaws.{length-head}
 use Rattle.idmap_write.specs.WriteLaws.{Raw, raw-facts, Delta, delta-facts, whole-laid}

@@ -1,6 +1,6 @@
 -- `idmap_write::write` meets its contract, by the three ways out of a writer.
 -- Assumes nothing.
-use mathlib.Core.Path.{_≡_, sym, _∙_}
+use mathlib.Core.Path.{sym, _∙_}
 use native.Mathlib.Omega.{arith}
 use Rattle.answers.specs.WriteLaws.{write-bad, write-short, write-done}
 use borrow.Author.Needs.{needs}

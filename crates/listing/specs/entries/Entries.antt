@@ -15,7 +15,7 @@ use Rattle.segment.specs.index.Offsets.{linkNo}
 use Rattle.manifest.specs.Opening.{opened, states}
 use Rattle.opening.specs.Indexed.{ManifestAt, EntryAt}
 use Rattle.reading.specs.Listing.{stateWord, linesOf}
-use Rattle.listing.specs.line.Lines.{lineAt, line-at, lines-append}
+use Rattle.listing.specs.line.Lines.{textLineAt, line-at, lines-append}
 use Rattle.manifest.specs.Payload.{statePlace}
 
 -- the lines of the first i entries, and of all, of what opening finds
@@ -54,7 +54,7 @@ module _ (f : List ℕ) (offset count : ℕ) (m : ManifestAt f offset count) whe
     abbrev ss : List ℕ
     ss = states (m .found)
 
-    more : firstLines (i + 1) (opened f) ≡ firstLines i (opened f) ++ lineAt f (getD offsets i 0) (stateWord (getD f (statePlace offset i) 0))
+    more : firstLines (i + 1) (opened f) ≡ firstLines i (opened f) ++ textLineAt f (getD offsets i 0) (stateWord (getD f (statePlace offset i) 0))
     unfolding firstLines
     more =
         let j : i < length ls = omega (arith, m .count-is) in
@@ -71,7 +71,7 @@ module _ (f : List ℕ) (offset count : ℕ) (m : ManifestAt f offset count) whe
         )
 
     pub entries-next : (t₀ t t′ : List ℕ) (at end end′ : ℕ) → EntriesAt f t₀ t at count i end
-        → Written t t′ end (lineAt f (getD offsets i 0) (stateWord (getD f (statePlace offset i) 0))) end′ → end′ ≤ end + 97
+        → Written t t′ end (textLineAt f (getD offsets i 0) (stateWord (getD f (statePlace offset i) 0))) end′ → end′ ≤ end + 97
         → EntriesAt f t₀ t′ at count (i + 1) end′
     entries-next t₀ t t′ at end end′ s w k =
         let q = s .short in

@@ -23,7 +23,7 @@ use Rattle.manifest.specs.OpeningLaws.{at-within}
 use Rattle.manifest.specs.declared.Opened.the-variants as ops
 use Rattle.opening.specs.Indexed.{ManifestAt, Indexed, opened-at, opened-end, opened-none, opened-refused, manifest-numbered, manifest-part, manifest-room}
 use Rattle.reading.specs.Listing.{maxListed, heading, refusedLine, endLine, listFound, listWith, listText}
-use Rattle.listing.specs.line.Lines.{lineAt, line-at}
+use Rattle.listing.specs.line.Lines.{textLineAt, line-at}
 use Rattle.listing.specs.entries.Entries.{entryLines}
 use Rattle.segment.specs.Header.{lengthAt}
 
@@ -51,7 +51,7 @@ module _ (f offsets : List ℕ) (offset end count t : ℕ) (b : Bytes f) (s : In
       cc
 
   -- the text of a file that opens
-  list-is : heading ++ (entryLines (opened f) ++ (lineAt f offset (ascii "manifest") ++ endLine end t)) ≡ listFound (tried f (opened f)) (opened f)
+  list-is : heading ++ (entryLines (opened f) ++ (textLineAt f offset (ascii "manifest") ++ endLine end t)) ≡ listFound (tried f (opened f)) (opened f)
   unfolding listFound entryLines
   list-is =
       rw (
@@ -62,11 +62,11 @@ module _ (f offsets : List ℕ) (offset end count t : ℕ) (b : Bytes f) (s : In
       )
 
   pub list-written : {t₀ t₁ t₂ t₃ t₄ t₅ : List ℕ} {p₁ p₂ p₃ p₄ p₅ : ℕ} → Written t₀ t₁ 0 heading p₁ → Written t₁ t₂ p₁ (entryLines (opened f)) p₂
-      → Written t₂ t₃ p₂ (lineAt f offset (ascii "manifest")) p₃ → Written t₃ t₄ p₃ (ascii "end " ++ (decimal end ++ ascii " tried ")) p₄
+      → Written t₂ t₃ p₂ (textLineAt f offset (ascii "manifest")) p₃ → Written t₃ t₄ p₃ (ascii "end " ++ (decimal end ++ ascii " tried ")) p₄
       → Written t₄ t₅ p₄ (decimal t ++ ascii "\n") p₅ → Written t₀ t₅ 0 (listFound (tried f (opened f)) (opened f)) p₅
   list-written {t₀} {t₅ = t₅} {p₅ = p₅} w x y z u =
       subst (λ (xs : List ℕ). Written t₀ t₅ 0 xs p₅)
-      (ap (λ (xs : List ℕ). heading ++ (entryLines (opened f) ++ (lineAt f offset (ascii "manifest") ++ xs))) (end-pieces end t) ∙ list-is)
+      (ap (λ (xs : List ℕ). heading ++ (entryLines (opened f) ++ (textLineAt f offset (ascii "manifest") ++ xs))) (end-pieces end t) ∙ list-is)
       (then w (then x (then y (then z u))))
 
 module _ (f : List ℕ) where

@@ -115,7 +115,7 @@ segment-link f p i id l m =
 
 -- ---- where the search stands: entries from i on are passed
 
-pub record SearchAt (f : List ℕ) (id count i : ℕ) : Type 0 where
+pub record SegmentsPassed (f : List ℕ) (id count i : ℕ) : Type 0 where
   pub at-most : i ≤ count
   pub same : (r : Found Link) → opened f ≡ some r → searchIn id (orderOf (take i (r .before)) (states r)) ≡ searchIn id (searchOrder r)
 
@@ -131,7 +131,7 @@ module _ (f : List ℕ) (id offset count : ℕ) (m : ManifestAt f offset count) 
   same-found : (r′ : Found Link) → opened f ≡ some r′ → r ≡ r′
   same-found r′ e = Option·some-injective _ _ (sym (m .opens) ∙ e)
 
-  pub search-first : SearchAt f id count count
+  pub search-first : SegmentsPassed f id count count
   search-first =
       record {
         at-most = omega arith;
@@ -140,17 +140,17 @@ module _ (f : List ℕ) (id offset count : ℕ) (m : ManifestAt f offset count) 
             ap (λ (n : ℕ). searchIn id (orderOf (take n (r′ .before)) (states r′))) c ∙ ap (searchIn id) (order-all r′);
       }
 
-  pub search-last : (i : ℕ) → SearchAt f id count i → i ≡ 0 → Nowhere ≡ locatedOf (hitIn f id)
+  pub search-last : (i : ℕ) → SegmentsPassed f id count i → i ≡ 0 → Nowhere ≡ locatedOf (hitIn f id)
   unfolding orderOf vectorsOf liveOf searchIn locatedOf
   search-last i st z =
       let e : searchIn id (orderOf (take i (r .before)) (states r)) ≡ Missing = ap (λ (n : ℕ). searchIn id (orderOf (take n (r .before)) (states r))) z in
       ap locatedOf (sym e ∙ st .same r (m .opens) ∙ sym hit-is)
 
-  module _ (i j : ℕ) (offsets : List ℕ) (st : SearchAt f id count i) (next : i ≡ suc j) (a : EntryAt f offsets r offset j) where
+  module _ (i j : ℕ) (offsets : List ℕ) (st : SegmentsPassed f id count i) (next : i ≡ suc j) (a : EntryAt f offsets r offset j) where
     inside : j < length (r .before)
     inside = let at-most = st .at-most in omega (arith, m .count-is)
 
-    on : orderOf (take (suc j) (r .before)) (states r) ≡ orderOf (take j (r .before)) (states r) → SearchAt f id count j
+    on : orderOf (take (suc j) (r .before)) (states r) ≡ orderOf (take j (r .before)) (states r) → SegmentsPassed f id count j
     on e =
         record {
           at-most = let at-most = st .at-most in omega arith;
@@ -159,10 +159,10 @@ module _ (f : List ℕ) (id offset count : ℕ) (m : ManifestAt f offset count) 
               (ap (searchIn id) (sym e) ∙ ap (λ (n : ℕ). searchIn id (orderOf (take n (r .before)) (states r))) (sym next) ∙ st .same r (m .opens));
         }
 
-    pub search-retired : (getD f (statePlace offset j) 0 ≡ 0 → ⊥) → SearchAt f id count j
+    pub search-retired : (getD f (statePlace offset j) 0 ≡ 0 → ⊥) → SegmentsPassed f id count j
     search-retired n = on (order-retired (r .before) (states r) j inside (λ z. n (sym (a .state-is) ∙ z)))
 
-    pub search-other : (kindAt f (getD offsets j 0) ≡ vecKind → ⊥) → SearchAt f id count j
+    pub search-other : (kindAt f (getD offsets j 0) ≡ vecKind → ⊥) → SegmentsPassed f id count j
     search-other n =
         on (order-other (r .before) (states r) j inside (λ z. n (sym (a .numbered .kind-is) ∙ ap (λ (l : Link). l .kind) (sym (a .link-is)) ∙ z)))
 
@@ -179,11 +179,11 @@ module _ (f : List ℕ) (id offset count : ℕ) (m : ManifestAt f offset count) 
       looked : segmentHitAt f (getD offsets j 0) (lengthAt f (getD offsets j 0)) id ≡ locatedOf (hitInSegment id (linkNo f j))
       looked = segment-link f (getD offsets j 0) j id (linkNo f j) (a .numbered)
 
-      pub search-on : segmentHitAt f (getD offsets j 0) (lengthAt f (getD offsets j 0)) id ≡ Nowhere → SearchAt f id count j
+      pub search-on : segmentHitAt f (getD offsets j 0) (lengthAt f (getD offsets j 0)) id ≡ Nowhere → SegmentsPassed f id count j
       unfolding orElse locatedOf
       search-on e = go (hitInSegment id (linkNo f j)) refl (sym looked ∙ e)
         where
-          go : (h : Hit) → hitInSegment id (linkNo f j) ≡ h → locatedOf h ≡ Nowhere → SearchAt f id count j
+          go : (h : Hit) → hitInSegment id (linkNo f j) ≡ h → locatedOf h ≡ Nowhere → SegmentsPassed f id count j
           go (Held l p) q z = absurd (let w : _≡_ {A = ℕ} 0 1 = cc in omega arith)
           go (Bad n) q z = absurd (let w : _≡_ {A = ℕ} 0 1 = cc in omega arith)
           go Missing q z =

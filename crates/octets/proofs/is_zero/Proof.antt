@@ -1,7 +1,7 @@
 -- `octets::is_zero` meets its contract. The invariant: what is gathered and what is left are zero together just where the whole list is.
 -- Assumes nothing.
 use Prim.Native.Nat.{_≤_, _-_}
-use mathlib.Core.Path.{_≡_, refl, sym, _∙_}
+use mathlib.Core.Path.{_≡_, sym, _∙_}
 use mathlib.Core.Bool.{_&&_}
 use native.Mathlib.Numerals.{add-one}
 use lib.Dec.{eqb}

@@ -15,8 +15,8 @@ use Rattle.manifest.specs.Directory.{entryIn, entryCase}
 use Rattle.segment.specs.Header.{flagsAt, idAt, kindAt, lengthAt}
 
 -- the same off the file: the header of the link at p, and the state at s
-unfoldable pub entryAt : List ℕ → ℕ → ℕ → DirectoryEntry
-entryAt f p s =
+unfoldable pub entryReadAt : List ℕ → ℕ → ℕ → DirectoryEntry
+entryReadAt f p s =
     Of p (idAt f p) (lengthAt f p) (leAt 8 f (p + 0x28)) (leAt 8 f (p + 0x30)) (kindAt f p) (getD f s 0) (flagsAt f p)
 
 -- ---- the ways out

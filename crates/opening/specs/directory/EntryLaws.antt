@@ -14,7 +14,7 @@ use Rattle.manifest.specs.declared.DirectoryEntry.{DirectoryEntry}
 use Rattle.manifest.specs.declared.DirectoryEntry.the-variants.{NoEntry}
 use Rattle.opening.specs.Indexed.{ManifestAt, EntryAt}
 use Rattle.manifest.specs.Directory.{entryIn, entryOf, entryCase}
-use Rattle.opening.specs.directory.Entry.{entryAt, entry-within}
+use Rattle.opening.specs.directory.Entry.{entryReadAt, entry-within}
 use Rattle.manifest.specs.Payload.{statePlace}
 
 module _ (f : List ℕ) (offset count : ℕ) (m : ManifestAt f offset count) (i : ℕ) where
@@ -32,8 +32,8 @@ module _ (f : List ℕ) (offset count : ℕ) (m : ManifestAt f offset count) (i 
         ∙ ap (λ (x : List ℕ). leOf (take 8 x)) (drop-drop k (getD offsets i 0 + 0x28) f)
         ∙ ap (leAt 8 f) e
 
-    pub entry-is : (o : DirectoryEntry) → o ≡ entryAt f (getD offsets i 0) (statePlace offset i) → o ≡ entryCase f i
-    unfolding entryIn entryOf entryAt
+    pub entry-is : (o : DirectoryEntry) → o ≡ entryReadAt f (getD offsets i 0) (statePlace offset i) → o ≡ entryCase f i
+    unfolding entryIn entryOf entryReadAt
     entry-is o e =
         let n = a .numbered in
         entry-within f i o (m .within)

@@ -11,11 +11,11 @@ use borrow.Rule.Slice.PartMut.{putMid}
 use Rattle.octets.specs.Over.{over}
 use Rattle.octets.specs.OverLaws.{length-over, over-then, over-next, over-swap}
 use Rattle.octets.specs.Parts.{back}
-use Rattle.octets.specs.Round.{round64}
+use Rattle.octets.specs.Round.{round64, padding}
 use Rattle.octets.specs.RoundLaws.{round64-ge}
 use Rattle.octets.specs.le.Le.{leBytes}
 use Rattle.segment.specs.Header.{magic, contentHash}
-use Rattle.segment.specs.Written.{headerOf, header, padding, segment}
+use Rattle.segment.specs.Written.{headerOf, header, segment}
 use Rattle.segment.specs.WrittenLaws.{headerOf-length, hash-length, header-length, segment-length}
 
 -- ---- the header
@@ -86,7 +86,7 @@ module _ (kind flags id timestamp : ℕ) (payload b0 : List ℕ) (room : 64 + ro
 
 -- ---- a header before a payload that is already in place
 
-pub in-place : (kind flags id timestamp : ℕ) (payload b0 b1 : List ℕ) → 64 + round64 (length payload) ≤ length b0 → b1 ≡ over b0 64 (payload ++ padding payload)
+pub in-place : (kind flags id timestamp : ℕ) (payload b0 b1 : List ℕ) → 64 + round64 (length payload) ≤ length b0 → b1 ≡ over b0 64 (payload ++ padding (length payload))
     → over b1 0 (headerOf kind flags id timestamp (length payload) (contentHash payload)) ≡ over b0 0 (segment kind flags id timestamp payload)
 unfolding segment header
 in-place kind flags id timestamp payload b0 b1 h p =
@@ -94,6 +94,6 @@ in-place kind flags id timestamp payload b0 b1 h p =
     let n : length head ≡ 64 = headerOf-length kind flags id timestamp (length payload) (contentHash payload) (hash-length payload) in
     let e : 0 + length head ≡ 64 = omega arith in
     ap (λ (b : List ℕ). over b 0 head) p
-    ∙ over-swap b0 0 head 64 (payload ++ padding payload) (omega arith) (omega arith)
-    ∙ (rw e at (over-next b0 0 head (payload ++ padding payload) (omega arith)))
-    ∙ ap (over b0 0) (sym (append-assoc head payload (padding payload)))
+    ∙ over-swap b0 0 head 64 (payload ++ padding (length payload)) (omega arith) (omega arith)
+    ∙ (rw e at (over-next b0 0 head (payload ++ padding (length payload)) (omega arith)))
+    ∙ ap (over b0 0) (sym (append-assoc head payload (padding (length payload))))

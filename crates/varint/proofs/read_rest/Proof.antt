@@ -1,9 +1,9 @@
 -- `varint::read_rest` meets its contract, by where its loop stands and the ways out of it.
 -- Assumes nothing.
-use Prim.Native.Nat.{_+_, _-_, _*_, _^_, _≤_, _<_}
+use Prim.Native.Nat.{_+_, _-_, _^_, _≤_}
 use mathlib.Core.Path.{_≡_, refl, sym, _∙_}
 use native.Mathlib.Omega.{arith}
-use lib.ListN.{length, getD, drop}
+use lib.ListN.{getD, drop}
 use Rattle.varint.specs.Varint.{onto, decode}
 use Rattle.varint.specs.Read.{Left, ReadSoFar, starts, stands-fits, stands-next, left-none, left-zero, left-value, left-next, tenth-one, tenth-bad}
 use borrow.Author.Needs.{needs}

@@ -1,7 +1,6 @@
 -- `vec_read::read` meets its contract, by its ways out.
 -- Assumes nothing.
-use mathlib.Core.Path.{_≡_, sym, _∙_}
-use native.Mathlib.Omega.{arith}
+use mathlib.Core.Path.{sym, _∙_}
 use Rattle.vec_read.specs.Vector.{get-bad, get-missing, get-bounds, get-short, get-read}
 use Rattle.vec_read.specs.find.Found.{never-refused}
 use borrow.Author.Needs.{needs}

@@ -37,20 +37,20 @@ same-place k p q r u = rw (p, q, r, u)
 
 -- ---- where the search stands: blocks from j on do not hold the id
 
-pub record SearchAt (s : List ℕ) (id j : ℕ) : Type 0 where
+pub record BlocksPassed (s : List ℕ) (id j : ℕ) : Type 0 where
   pub at-most : j ≤ blockCount s
   pub same : findUpTo j s id ≡ findIn s id
 
-pub search-first : (s : List ℕ) (id : ℕ) → SearchAt s id (blockCount s)
+pub search-first : (s : List ℕ) (id : ℕ) → BlocksPassed s id (blockCount s)
 unfolding findIn
 search-first s id = record { at-most = omega arith; same = refl }
 
-pub search-last : (s : List ℕ) (id j : ℕ) → SearchAt s id j → j ≡ 0 → Missing ≡ foundOf (findIn s id)
+pub search-last : (s : List ℕ) (id j : ℕ) → BlocksPassed s id j → j ≡ 0 → Missing ≡ foundOf (findIn s id)
 unfolding findUpTo foundOf
 search-last s id j st z = ap foundOf (sym (ap (λ (n : ℕ). findUpTo n s id) z) ∙ st .same)
 
 -- a turn looks at block j - 1, whose line's numbers the code has read
-module _ (s : List ℕ) (ok : checkOf s ≡ 0) (id j : ℕ) (st : SearchAt s id j) (h : 0 < j) (offset count dim dtype w : ℕ)
+module _ (s : List ℕ) (ok : checkOf s ≡ 0) (id j : ℕ) (st : BlocksPassed s id j) (h : 0 < j) (offset count dim dtype w : ℕ)
     (o : offset ≡ leAt 4 s (4 + 12 * (j - 1))) (c : count ≡ leAt 4 s (4 + 12 * (j - 1) + 4)) (d : dim ≡ leAt 2 s (4 + 12 * (j - 1) + 8))
     (t : dtype ≡ getD s (4 + 12 * (j - 1) + 10) 0) (ww : w ≡ width dtype) where
   good : IdsGood s (j - 1)
@@ -117,7 +117,7 @@ module _ (s : List ℕ) (ok : checkOf s ≡ 0) (id j : ℕ) (st : SearchAt s id 
       same-place k (sym line-offset) (sym line-count) (sym line-dim) (sym line-dtype) ∙ ap foundOf (sym q ∙ st .same)
 
   pub turn-on : (own : List ℕ) → Filled (mapOf count (take (length s - (offset + count * dim * w)) (drop (offset + count * dim * w) s))) own
-      → indexAnswer (indexOf id (take count own)) ≡ Nowhere → SearchAt s id (j - 1)
+      → indexAnswer (indexOf id (take count own)) ≡ Nowhere → BlocksPassed s id (j - 1)
   turn-on own f p =
       let at-most = st .at-most in
       let at : indexOf id (idsAt s (j - 1)) ≡ none = rw (own-ids own f) at (was-nowhere _ p) in

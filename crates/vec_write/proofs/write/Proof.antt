@@ -7,7 +7,7 @@ use lib.ListN.{length}
 use Rattle.answers.specs.WriteLaws.{write-bad, write-short, write-done}
 use Rattle.octets.specs.RoundLaws.{round64-lt}
 use Rattle.vecseg.specs.Writer.{vecBytes}
-use Rattle.vecseg.specs.WriterLaws.{Accepted, accepted, held-small}
+use Rattle.vecseg.specs.WriterLaws.{WriterAccepts, accepted, held-small}
 use Rattle.vecseg.specs.Laid.{payload-size, payload-laid}
 use borrow.Author.Needs.{needs}
 use Rattle.vec_write.proofs.write.Statement.{statement}
@@ -18,7 +18,7 @@ abbrev start : tie.Else1 → tie.Start
 start c = c .before .before .before .before .before
 
 good : (c : tie.Else1)
-    → Accepted (start c .args .ids .now) (start c .args .columns .now) (start c .args .dim) (start c .args .dtype)
+    → WriterAccepts (start c .args .ids .now) (start c .args .columns .now) (start c .args .dim) (start c .args .dtype)
     (start c .args .tier) (start c .args .encoding) (start c .args .interval)
 good c = accepted _ _ _ _ _ _ _ (sym (c .before .refusal .ensures) ∙ c .if1 .left)
 

@@ -15,7 +15,7 @@ use Rattle.manifest.specs.Opening.{opened}
 use Rattle.batch.specs.Form.{bodiesOf}
 use Rattle.batch.specs.Lines.{bodies-count, count-is, held-bounds}
 use Rattle.appending.specs.Append.{newCount, newEnd, manifestId}
-use Rattle.append.specs.commit.Commit.{nextOf, commit-entries, commit-ids, commit-limit, commit-room, commit-done, count-number, id-number, end-number, payload-round}
+use Rattle.append.specs.commit.Commit.{nextIdOf, commit-entries, commit-ids, commit-limit, commit-room, commit-done, count-number, id-number, end-number, payload-round}
 use Rattle.append.specs.commit.Written.{bodies-most, written-inside, written-all}
 use borrow.Author.Needs.{needs}
 use Rattle.append.proofs.commit.commit.Statement.{statement}
@@ -30,7 +30,7 @@ module _ (u : tie.After-u32-at) where
   m = u .u32-at .result
 
   abbrev next : ℕ
-  next = nextOf (s .args .first) (s .args .last)
+  next = nextIdOf (s .args .first) (s .args .last)
 
   count-new : s .args .kept + m ≡ newCount (opened (take (s .args .start) (s .args .buf .now))) (bodiesOf (s .args .batch .now))
   count-new =

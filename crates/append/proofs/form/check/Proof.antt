@@ -4,13 +4,13 @@ use Prim.Native.Nat.{_-_}
 use mathlib.Core.Path.{sym, _∙_}
 use native.Mathlib.Omega.{arith}
 use borrow.Author.Tests.{not-true, not-false}
-use Rattle.batch.specs.Lines.{batch-short, batch-long, batch-zeros, batch-many, batch-room, batch-lines, LinesAt, lines-first, lines-stop, lines-next, lines-last}
+use Rattle.batch.specs.Lines.{batch-short, batch-long, batch-zeros, batch-many, batch-room, batch-lines, BatchLinesAt, lines-first, lines-stop, lines-next, lines-last}
 use borrow.Author.Needs.{needs}
 use Rattle.append.proofs.form.check.Statement.{statement}
 use Rattle.append.proofs.form.check.Tie as tie
 
 abbrev Inv-loop : tie.InvT-loop
-Inv-loop batch bodies at₀ i₀ at i = LinesAt batch bodies i at
+Inv-loop batch bodies at₀ i₀ at i = BatchLinesAt batch bodies i at
 
 abbrev μ-loop : tie.MeasureT-loop
 μ-loop batch bodies at₀ i₀ at i = bodies - i

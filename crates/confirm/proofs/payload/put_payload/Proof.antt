@@ -1,12 +1,12 @@
 -- `confirm::payload::put_payload` meets its contract: the record's head, entries, fill, and the root in the part behind them.
 -- Assumes nothing.
 use Prim.Native.Nat.{ℕ, _+_, _≤_}
-use mathlib.Core.Path.{_≡_, ap, sym, _∙_}
+use mathlib.Core.Path.{_≡_, ap, _∙_}
 use native.Mathlib.Omega.{arith}
 use lib.ListN.{length, length-take, length-drop}
 use Rattle.octets.specs.Round.{round64}
 use Rattle.manifest.specs.Sized.{recordBy}
-use Rattle.manifest.specs.Payload.{payloadLength, recordEnd}
+use Rattle.manifest.specs.Payload.{payloadLength}
 use Rattle.confirm.specs.entries.Laid.{head-laid, filled, payload-laid}
 use borrow.Author.Needs.{needs}
 use Rattle.confirm.proofs.payload.put_payload.Statement.{statement}

@@ -7,7 +7,7 @@ use lib.ListN.{length}
 use lib.Seq.{length-take-le}
 use Rattle.octets.specs.Round.{round64}
 use Rattle.manifest.specs.Sized.{recordBy}
-use Rattle.manifest.specs.Payload.{payloadLength, recordEnd}
+use Rattle.manifest.specs.Payload.{payloadLength}
 use Rattle.confirm.specs.entries.Laid.{fields-laid, root-laid}
 use borrow.Author.Needs.{needs}
 use Rattle.confirm.proofs.payload.put_root.Statement.{statement}

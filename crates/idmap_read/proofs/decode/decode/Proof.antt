@@ -1,6 +1,5 @@
 -- `idmap_read::decode::decode` meets its contract, by the map's head.
 -- Assumes nothing.
-use mathlib.Core.Path.{_≡_, sym, _∙_}
 use native.Mathlib.Omega.{arith}
 use Rattle.idmap.specs.DecodeLaws.{broken}
 use Rattle.idmap_read.specs.decode.Head.{head-short, head-count, head-raw, head-raw-interval, head-delta, head-delta-interval, head-other}

@@ -1,10 +1,8 @@
 -- `idmap_write::encode::deltas_len` meets its contract, by where its loop stands.
 -- Assumes nothing.
 use Prim.Native.Nat.{_-_}
-use mathlib.Core.Path.{_≡_, sym, ap, _∙_}
 use native.Mathlib.Omega.{arith}
 use lib.ListN.{length}
-use Rattle.varint.specs.Varint.{varintOf}
 use Rattle.idmap.specs.EncodeLaws.{ids-first, ids-above}
 use Rattle.idmap_write.specs.encode.Put.{LenAt, len-first, len-next, len-last}
 use borrow.Author.Needs.{needs}

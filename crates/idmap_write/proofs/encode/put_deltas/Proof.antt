@@ -1,10 +1,9 @@
 -- `idmap_write::encode::put_deltas` meets its contract, by where its loop stands.
 -- Assumes nothing.
 use Prim.Native.Nat.{_-_}
-use mathlib.Core.Path.{_≡_, sym, ap, _∙_}
+use mathlib.Core.Path.{_∙_}
 use native.Mathlib.Omega.{arith}
 use lib.ListN.{length}
-use Rattle.varint.specs.Varint.{varintOf}
 use Rattle.idmap.specs.EncodeLaws.{ids-first, ids-above}
 use Rattle.idmap_write.specs.encode.Put.{PutAt, put-first, put-offs, put-vars, put-behind, put-next, put-last}
 use borrow.Author.Needs.{needs}

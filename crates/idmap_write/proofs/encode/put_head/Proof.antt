@@ -1,7 +1,7 @@
 -- `idmap_write::encode::put_head` meets its contract, field by field.
 -- Assumes nothing.
 use native.Mathlib.Omega.{arith}
-use mathlib.Core.Path.{sym, _∙_}
+use mathlib.Core.Path.{_∙_}
 use lib.ListN.{length-set}
 use Rattle.idmap_write.specs.encode.Put.{head-laid}
 use borrow.Author.Needs.{needs}

@@ -1,10 +1,9 @@
 -- `idmap_write::encode::put_restart` meets its contract: an offset where a group begins, else nothing.
 -- Assumes nothing.
-use Prim.Native.Nat.{suc, _-_, _+_}
+use Prim.Native.Nat.{suc, _-_}
 use mathlib.Core.Path.{_≡_, refl, sym}
 use native.Mathlib.Nat.{add-zero}
 use native.Mathlib.Omega.{arith}
-use lib.ListN.{length}
 use Rattle.octets.specs.OverLaws.{over-none}
 use Rattle.octets.specs.le.Laws.{length-leBytes}
 use Rattle.idmap.specs.Encode.{restartOf}

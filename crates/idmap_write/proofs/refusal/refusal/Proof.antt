@@ -1,6 +1,6 @@
 -- `idmap_write::refusal::refusal` meets its contract, by its ways out.
 -- Assumes nothing.
-use mathlib.Core.Path.{_≡_, sym, _∙_}
+use mathlib.Core.Path.{sym, _∙_}
 use native.Mathlib.Omega.{arith}
 use borrow.Author.Tests.{not-true, not-false}
 use Rattle.idmap_write.specs.refusal.RefusalLaws.{bad-none, bad-many, bad-interval, bad-ids, bad-not}

@@ -5,13 +5,13 @@ use Prim.Native.Nat.{ℕ, _-_}
 use mathlib.Core.Path.{_≡_, sym, _∙_}
 use native.Mathlib.Omega.{arith}
 use lib.ListN.{length}
-use Rattle.lookup.specs.in_segment.Located.{SearchAt, search-first, search-last, search-retired, search-other, search-on, search-stop}
+use Rattle.lookup.specs.in_segment.Located.{SegmentsPassed, search-first, search-last, search-retired, search-other, search-on, search-stop}
 use borrow.Author.Needs.{needs}
 use Rattle.lookup.proofs.in_file.find_down.Statement.{statement}
 use Rattle.lookup.proofs.in_file.find_down.Tie as tie
 
 abbrev Inv-loop : tie.InvT-loop
-Inv-loop file offsets manifest count id scratch₀ i₀ scratch i = SearchAt file id count i × (length scratch ≡ length scratch₀)
+Inv-loop file offsets manifest count id scratch₀ i₀ scratch i = SegmentsPassed file id count i × (length scratch ≡ length scratch₀)
 
 abbrev μ-loop : tie.MeasureT-loop
 μ-loop file offsets manifest count id scratch₀ i₀ scratch i = i

@@ -1,9 +1,9 @@
 -- `octets::numbers::index_of` meets its contract, by where its loop stands.
 -- Assumes nothing.
 use Prim.Native.Nat.{_-_}
-use mathlib.Core.Path.{_≡_, refl, sym, ap, _∙_}
+use mathlib.Core.Path.{sym, _∙_}
 use native.Mathlib.Omega.{arith}
-use lib.ListN.{length, take}
+use lib.ListN.{take}
 use lib.Seq.{length-take-le, getD-take}
 use Rattle.octets.specs.numbers.NumbersLaws.{IndexAt, index-first, index-here, index-next, index-last, index-place, index-nowhere}
 use borrow.Author.Needs.{needs}

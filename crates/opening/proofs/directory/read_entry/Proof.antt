@@ -1,12 +1,12 @@
 -- `opening::directory::read_entry` meets its contract.
 -- Assumes nothing.
-use Rattle.opening.specs.directory.Entry.{entryAt}
+use Rattle.opening.specs.directory.Entry.{entryReadAt}
 use borrow.Author.Needs.{needs}
 use Rattle.opening.proofs.directory.read_entry.Statement.{statement}
 use Rattle.opening.proofs.directory.read_entry.Tie as tie
 
 returns : tie.Need-returns
-unfolding entryAt
+unfolding entryReadAt
 returns c =
     let ua4 = c .before .before .before in
     rw (

@@ -1,6 +1,6 @@
 -- `rvf_component` meets its contract: what `lookup::vector::component_bits` answers, by number and values.
 -- Assumes nothing.
-use mathlib.Core.Path.{_≡_, sym, ap, _∙_}
+use mathlib.Core.Path.{sym, ap, _∙_}
 use mathlib.Core.List.{[]}
 use Rattle.answers.specs.Out.{out-refused, out-accepted}
 use Rattle.reading.specs.Component.{bitsAnswer}

@@ -1,6 +1,6 @@
 -- `rvf_payload` meets its contract: what `lookup::place::payload_place` answers, by number and values.
 -- Assumes nothing.
-use mathlib.Core.Path.{_≡_, sym, ap, _∙_}
+use mathlib.Core.Path.{sym, ap, _∙_}
 use mathlib.Core.List.{[]}
 use Rattle.answers.specs.Out.{out-refused, out-accepted}
 use Rattle.reading.specs.Part.{placeAnswer}

@@ -1,6 +1,6 @@
 -- `rvf_entry` meets its contract: what `opening::directory::entry` answers, by number and values.
 -- Assumes nothing.
-use mathlib.Core.Path.{_≡_, sym, _∙_}
+use mathlib.Core.Path.{sym, _∙_}
 use Rattle.manifest.specs.EntryOut.{out-entry, out-no-entry, out-refused}
 use lib.Dec.{lit<}
 use borrow.Author.Needs.{needs}

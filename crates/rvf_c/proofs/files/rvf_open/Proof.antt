@@ -1,6 +1,6 @@
 -- `rvf_open` meets its contract: what `opening::open` answers, by number and values.
 -- Assumes nothing.
-use mathlib.Core.Path.{_≡_, sym, _∙_}
+use mathlib.Core.Path.{sym, _∙_}
 use Rattle.manifest.specs.OpenOut.{out-opened, out-none, out-refused}
 use lib.Dec.{lit<}
 use borrow.Author.Needs.{needs}

@@ -2,13 +2,13 @@
 -- Assumes nothing.
 use Prim.Native.Nat.{_≤_}
 use native.Mathlib.Omega.{arith}
-use Rattle.varint.specs.Write.{ReadSoFar, stands-first, stands-more, stands-last, last-length}
+use Rattle.varint.specs.Write.{WrittenSoFar, stands-first, stands-more, stands-last, last-length}
 use borrow.Author.Needs.{needs}
 use Rattle.varint.proofs.write.encoded_len.Statement.{statement}
 use Rattle.varint.proofs.write.encoded_len.Tie as tie
 
 abbrev Inv-loop : tie.InvT-loop
-Inv-loop x d₀ rest₀ d rest = (ReadSoFar x d rest) × (d ≤ 9)
+Inv-loop x d₀ rest₀ d rest = (WrittenSoFar x d rest) × (d ≤ 9)
 
 abbrev μ-loop : tie.MeasureT-loop
 μ-loop x d₀ rest₀ d rest = rest

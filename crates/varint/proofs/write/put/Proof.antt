@@ -6,13 +6,13 @@ use lib.ListN.{length, take}
 use Rattle.octets.specs.Over.{over}
 use Rattle.octets.specs.OverLaws.{over-none}
 use Rattle.varint.specs.Varint.{varintOf}
-use Rattle.varint.specs.Write.{ReadSoFar, stands-first, stands-byte, stands-more, stands-last, last-length, laid, all-laid}
+use Rattle.varint.specs.Write.{WrittenSoFar, stands-first, stands-byte, stands-more, stands-last, last-length, laid, all-laid}
 use borrow.Author.Needs.{needs}
 use Rattle.varint.proofs.write.put.Statement.{statement}
 use Rattle.varint.proofs.write.put.Tie as tie
 
 abbrev Inv-loop : tie.InvT-loop
-Inv-loop out₀ at x d₀ rest₀ out d rest = (ReadSoFar x d rest) × ((length out ≡ length out₀) × (out ≡ over out₀ at (take d (varintOf x))))
+Inv-loop out₀ at x d₀ rest₀ out d rest = (WrittenSoFar x d rest) × ((length out ≡ length out₀) × (out ≡ over out₀ at (take d (varintOf x))))
 
 abbrev μ-loop : tie.MeasureT-loop
 μ-loop out₀ at x d₀ rest₀ out d rest = rest

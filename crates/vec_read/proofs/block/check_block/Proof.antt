@@ -1,7 +1,7 @@
 -- `vec_read::block::check_block` meets its contract, by its ways out in the order of document 01.
 -- Assumes nothing.
-use Prim.Native.Nat.{_≤_, _+_, _-_, _*_}
-use mathlib.Core.Path.{_≡_, refl, sym, ap, _∙_}
+use Prim.Native.Nat.{_≤_, _+_, _*_}
+use mathlib.Core.Path.{sym, _∙_}
 use native.Mathlib.Omega.{arith}
 use lib.Seq.{length-take-le}
 use lib.ListN.{length}

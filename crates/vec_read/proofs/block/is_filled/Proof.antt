@@ -1,7 +1,6 @@
 -- `vec_read::block::is_filled` meets its contract.
 -- Assumes nothing.
-use Prim.Native.Nat.{_≤_, _-_}
-use mathlib.Core.Path.{_≡_, refl, sym, _∙_}
+use mathlib.Core.Path.{_∙_}
 use native.Mathlib.Omega.{arith}
 use Rattle.octets.specs.RoundLaws.{round64-ge}
 use Rattle.vecseg.specs.BlockLaws.{filled-short, filled-there}

@@ -1,12 +1,9 @@
 -- `vec_read::check::check` meets its contract, by its ways out in the order of document 01.
 -- Assumes nothing.
-use Prim.Native.Nat.{_≤_, _<_, _+_, _*_}
-use mathlib.Core.Path.{_≡_, refl, sym, ap, _∙_}
+use mathlib.Core.Path.{sym, _∙_}
 use native.Mathlib.Omega.{arith}
-use lib.ListN.{length}
 use borrow.Author.Tests.{not-true, not-false}
-use Rattle.octets.specs.Round.{round64}
-use Rattle.vecseg.specs.Payload.{blockCount, linesBad}
+use Rattle.vecseg.specs.Payload.{blockCount}
 use Rattle.vecseg.specs.BlockLaws.{filled-fits}
 use Rattle.vecseg.specs.CheckLaws.{check-short, check-many, check-lines-short, check-lines, check-fill, check-blocks}
 use borrow.Author.Needs.{needs}

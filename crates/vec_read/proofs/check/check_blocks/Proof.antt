@@ -1,7 +1,7 @@
 -- `vec_read::check::check_blocks` meets its contract, by where its loop stands.
 -- Assumes nothing.
-use Prim.Native.Nat.{_+_, _-_, _*_, _≤_}
-use mathlib.Core.Path.{_≡_, refl, sym, ap, _∙_}
+use Prim.Native.Nat.{_-_}
+use mathlib.Core.Path.{_≡_, refl, sym, _∙_}
 use native.Mathlib.Omega.{arith}
 use lib.ListN.{length}
 use Rattle.vecseg.specs.LineLaws.{LinesAt, lines-first, lines-on}

@@ -1,19 +1,19 @@
 -- `vec_read::find::find_with` meets its contract, by where its search stands.
 -- Assumes nothing.
 use Prim.Native.Nat.{_+_, _-_, _*_, _≤_}
-use mathlib.Core.Path.{_≡_, refl, sym, ap, _∙_}
+use mathlib.Core.Path.{_≡_, refl, sym, _∙_}
 use native.Mathlib.Omega.{arith}
 use lib.ListN.{length, getD}
-use Rattle.vecseg.specs.Payload.{width, blockCount}
+use Rattle.vecseg.specs.Payload.{blockCount}
 use Rattle.vecseg.specs.LineLaws.{columns-fit}
 use Rattle.vecseg.specs.CheckLaws.{sound}
-use Rattle.vec_read.specs.find.Found.{SearchAt, search-first, search-last, turn-bounds, turn-room, turn-whole, turn-found, turn-on}
+use Rattle.vec_read.specs.find.Found.{BlocksPassed, search-first, search-last, turn-bounds, turn-room, turn-whole, turn-found, turn-on}
 use borrow.Author.Needs.{needs}
 use Rattle.vec_read.proofs.find.find_with.Statement.{statement}
 use Rattle.vec_read.proofs.find.find_with.Tie as tie
 
 abbrev Inv-loop : tie.InvT-loop
-Inv-loop s id scratch₀ j₀ scratch j = (SearchAt s id j) × (length scratch ≡ length scratch₀)
+Inv-loop s id scratch₀ j₀ scratch j = (BlocksPassed s id j) × (length scratch ≡ length scratch₀)
 
 abbrev μ-loop : tie.MeasureT-loop
 μ-loop s id scratch₀ j₀ scratch j = j

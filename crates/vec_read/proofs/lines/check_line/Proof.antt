@@ -1,10 +1,10 @@
 -- `vec_read::lines::check_line` meets its contract, by the ways out of a line's check.
 -- Assumes nothing.
 use Prim.Native.Nat.{_+_}
-use mathlib.Core.Path.{_≡_, refl, sym, ap, _∙_}
+use mathlib.Core.Path.{sym, ap, _∙_}
 use native.Mathlib.Omega.{arith}
 use Rattle.vecseg.specs.Payload.{width}
-use Rattle.vecseg.specs.LineLaws.{LineIs, line-is, line-count-none, line-count-over, line-dim-none, line-dim-over, line-dtype, line-good}
+use Rattle.vecseg.specs.LineLaws.{line-is, line-count-none, line-count-over, line-dim-none, line-dim-over, line-dtype, line-good}
 use borrow.Author.Needs.{needs}
 use Rattle.vec_read.proofs.lines.check_line.Statement.{statement}
 use Rattle.vec_read.proofs.lines.check_line.Tie as tie

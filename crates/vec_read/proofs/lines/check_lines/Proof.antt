@@ -1,7 +1,7 @@
 -- `vec_read::lines::check_lines` meets its contract, by where its loop stands.
 -- Assumes nothing.
 use Prim.Native.Nat.{_-_}
-use mathlib.Core.Path.{_≡_, sym, _∙_}
+use mathlib.Core.Path.{sym, _∙_}
 use native.Mathlib.Omega.{arith}
 use Rattle.vecseg.specs.LineLaws.{LinesAt, lines-first, lines-next, lines-stop, lines-last}
 use borrow.Author.Needs.{needs}

@@ -1,9 +1,6 @@
 -- `vec_read::values::component_at` meets its contract, by the three kinds.
 -- Assumes nothing.
-use Prim.Native.Nat.{_+_, _≤_}
-use mathlib.Core.Path.{_≡_, refl, sym, ap, _∙_}
-use native.Mathlib.Omega.{arith}
-use lib.ListN.{length}
+use mathlib.Core.Path.{_≡_, ap, _∙_}
 use mir.Syntax.{w8}
 use mir.Val.{toZ, ofZ}
 use Rattle.vecseg.specs.Payload.{width}

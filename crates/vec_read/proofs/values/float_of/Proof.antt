@@ -1,6 +1,6 @@
 -- `vec_read::values::float_of` meets its contract: a NaN's pattern, and any other.
 -- Assumes nothing.
-use mathlib.Core.Path.{_≡_, sym}
+use mathlib.Core.Path.{sym}
 use lib.Ieee.{ofBits, div}
 use Rattle.vec_read.specs.values.Bytes.{nan-above, no-nan}
 use borrow.Author.Needs.{needs}

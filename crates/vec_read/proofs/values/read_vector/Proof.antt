@@ -1,12 +1,11 @@
 -- `vec_read::values::read_vector` meets its contract, by where its loop stands.
 -- Assumes nothing.
-use Prim.Native.Nat.{_+_, _-_, _*_, _≤_, _<_}
-use mathlib.Core.Path.{_≡_, refl, sym, ap, _∙_}
+use Prim.Native.Nat.{_+_, _-_, _*_}
+use mathlib.Core.Path.{refl, sym, ap}
 use native.Mathlib.Omega.{arith}
 use lib.ListN.{length, drop, length-drop}
 use lib.Seq.{length-take-le}
 use Rattle.answers.specs.WriteLaws.{write-short, write-done}
-use Rattle.vecseg.specs.Payload.{width}
 use Rattle.vec_read.specs.values.Vector.{Bounds, ValueRoom, value-room, all-room, VectorAt, vector-length, vector-first, vector-next, vector-last}
 use borrow.Author.Needs.{needs}
 use Rattle.vec_read.proofs.values.read_vector.Statement.{statement}

@@ -1,7 +1,7 @@
 -- `vec_write::parts::put_block` meets its contract: columns, the map in a part that was lent, the checksum of both, the padding.
 -- Assumes nothing.
 use Prim.Native.Nat.{_+_, _≤_}
-use mathlib.Core.Path.{_≡_, sym}
+use mathlib.Core.Path.{sym}
 use native.Mathlib.Omega.{arith}
 use lib.ListN.{length}
 use lib.Seq.{length-take-le}

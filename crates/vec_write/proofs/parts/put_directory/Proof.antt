@@ -1,6 +1,6 @@
 -- `vec_write::parts::put_directory` meets its contract, field by field.
 -- Assumes nothing.
-use mathlib.Core.Path.{_≡_, refl}
+use mathlib.Core.Path.{refl}
 use native.Mathlib.Omega.{arith}
 use Rattle.octets.specs.Round.{round64}
 use Rattle.vecseg.specs.Laid.{padded, directory-laid}
