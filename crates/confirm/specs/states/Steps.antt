@@ -109,7 +109,11 @@ module _ (f os : List ℕ) (at len id : ℕ) where
   other-length kind h t n =
       let a = payload-length h in
       let b = length-payloadAt f os (statesReadAt f os at len) at id t in
-      rw (same-length (payloadIn f at len) (payloadAt f os (statesReadAt f os at len) at id) (λ e. n (sym a ∙ e ∙ b)), and-false)
+      let held = statesHeldAt f os (statesReadAt f os at len) in
+      let rest : Bool = eqb kind manifestKind && leb (length os) maxEntries && wholeAt f at len && held in
+      sym
+      (ap (λ (same : Bool). rest && same) (same-length (payloadIn f at len) (payloadAt f os (statesReadAt f os at len) at id) (λ e. n (sym a ∙ e ∙ b)))
+      ∙ and-false rest)
 
   pub not-held : statesHeldAt f os (statesReadAt f os at len) ≡ false → false ≡ confirmedAt f os at len 5 id
   unfolding confirmedAt
