@@ -17,16 +17,16 @@ use Rattle.idmap.specs.Decode.{MapRead, Whole, Broken, readRaw, rawMap, 
 
 -- the least id that may come behind i ids, the last of which is prev
 abbrev pub lowOf : ℕ → ℕ → ℕ
-lowOf i prev = leastNext (eqb i 0) prev
+lowOf = leastNext
 
 pub low-more : (i x : ℕ) → lowOf (i + 1) x ≡ suc x
-low-more i x = rw (ne-eqb (i + 1) 0 (λ q. omega arith)) (omega arith)
+low-more i x = rw add-one (omega arith)
 
 pub low-none : (i prev : ℕ) → i ≡ 0 → lowOf i prev ≡ 0
 low-none i prev z = rw z
 
 pub low-some : (i prev : ℕ) → 0 < i → lowOf i prev ≡ suc prev
-low-some i prev h = rw (ne-eqb i 0 (λ q. omega arith)) (omega arith)
+low-some i prev h = let l : i ≡ suc (i - 1) = omega arith in rw l (omega arith)
 
 -- what a list for the ids holds at its front: those that were read
 abbrev pub Filled : MapRead → List ℕ → Type 0

@@ -22,7 +22,7 @@ fn decode_raw(s: &[u8], count: usize, ids: &mut [u64]) -> Wrote
     let mut prev: u64 = 0;
     while i < count {
         let x = octets::le::u64_at(s, 7 + 8 * i);
-        if !octets::numbers::follows(i == 0, prev, x) {
+        if !octets::numbers::follows(i, prev, x) {
             return Wrote::Refused(5);
         }
         ids[i] = x;

@@ -35,7 +35,7 @@ fn next_id(
         if octets::le::u32_at(s, offset) as usize != at {
             return NextId::Refused(5);
         }
-        if octets::numbers::follows(i == 0, prev, value) {
+        if octets::numbers::follows(i, prev, value) {
             return NextId::Id(value);
         }
         return NextId::Refused(5);

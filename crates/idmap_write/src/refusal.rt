@@ -11,7 +11,7 @@ fn rising(ids: &[u64]) -> bool
     let mut prev: u64 = 0;
     while i < ids.len() {
         let x = ids[i];
-        if !octets::numbers::follows(i == 0, prev, x) {
+        if !octets::numbers::follows(i, prev, x) {
             return false;
         }
         prev = x;

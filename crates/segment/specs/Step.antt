@@ -22,9 +22,17 @@ use Rattle.segment.specs.Header.{Link, State, linkAt, size, hashIn, cont
 use Rattle.segment.specs.Laws.{linkFront, link-front, number-front, LinkRead, lies}
 use Rattle.octets.specs.numbers.Numbers.{leastNext}
 
+-- 'id above the id of the link before (the first link: any id)', as the least id
+abbrev pub countBefore : Bool → ℕ
+countBefore true = 0
+countBefore false = 1
+
+abbrev pub leastId : Bool → ℕ → ℕ
+leastId first prev = leastNext (countBefore first) prev
+
 -- what the link at a place is read with
 abbrev pub stateAt : ℕ → Bool → ℕ → State
-stateAt at first prev = record { at = at; least = leastNext first prev }
+stateAt at first prev = record { at = at; least = leastId first prev }
 
 -- of a link: its end, id, payload length, type and flags
 unfoldable pub stepOf : Option Link → Step
@@ -85,7 +93,7 @@ module _ (f : List ℕ) (at : ℕ) (first : Bool) (prev : ℕ) where
     abbrev pad : List ℕ
     pad = take (at + 64 + m - (at + 64 + n)) (drop (at + 64 + n) f)
 
-    tests : linkAt (stateAt at first prev) (drop at f) ≡ cond (headSound (leastNext first prev) head && allZero pad) (some (linkFront at (drop at f))) none
+    tests : linkAt (stateAt at first prev) (drop at f) ≡ cond (headSound (leastId first prev) head && allZero pad) (some (linkFront at (drop at f))) none
     tests =
         let g : lengthIn (take 64 (drop at f)) ≡ n = rw (← head-is) (sym e) in
         let k : 64 + round64 n ≤ length (drop at f) = rw (length-drop, ← z) fits in
@@ -93,15 +101,15 @@ module _ (f : List ℕ) (at : ℕ) (first : Bool) (prev : ℕ) where
         let b : at + 64 + n ≡ at + (64 + n) = omega arith in
         link-tests (stateAt at first prev) (drop at f) n g k ∙ rw (head-is, a, b, drop-drop)
 
-    pub step-unsound : headSound (leastNext first prev) head ≡ false → Stop ≡ stepAt f at first prev
+    pub step-unsound : headSound (leastId first prev) head ≡ false → Stop ≡ stepAt f at first prev
     unfolding stepAt stepOf
     step-unsound h = rw (tests, h)
 
-    pub step-padding : headSound (leastNext first prev) head ≡ true → allZero pad ≡ false → Stop ≡ stepAt f at first prev
+    pub step-padding : headSound (leastId first prev) head ≡ true → allZero pad ≡ false → Stop ≡ stepAt f at first prev
     unfolding stepAt stepOf
     step-padding h k = rw (tests, h, k)
 
-    pub step-sound : headSound (leastNext first prev) head ≡ true → allZero pad ≡ true → (id flags : ℕ) → id ≡ leAt 8 head 0x08 → flags ≡ leAt 2 head 0x06
+    pub step-sound : headSound (leastId first prev) head ≡ true → allZero pad ≡ true → (id flags : ℕ) → id ≡ leAt 8 head 0x08 → flags ≡ leAt 2 head 0x06
         → Sound (at + 64 + m) id n (getD head 0x05 0) flags ≡ stepAt f at first prev
     unfolding stepAt stepOf linkFront size
     step-sound h k id flags p q =

@@ -1,6 +1,6 @@
 -- Lists of numbers: where one stands, and which may follow another.
 -- Assumes nothing.
-use Prim.Native.Nat.{ℕ, suc, _+_}
+use Prim.Native.Nat.{ℕ, zero, suc, _+_}
 use mathlib.Core.Bool.{cond, Bool, true, false}
 use mathlib.Core.Option.{Option, none, some}
 use mathlib.Core.List.{List, [], _∷_}
@@ -17,7 +17,7 @@ unfoldable pub indexAnswer : Option ℕ → Index
 indexAnswer none = Nowhere
 indexAnswer (some i) = IndexPlace i
 
--- 'id above the id of the link before (the first link: any id)', as the least id
-abbrev pub leastNext : Bool → ℕ → ℕ
-leastNext true prev = 0
-leastNext false prev = prev + 1
+-- the least number that may follow some others: the first may be any, each other is above the one before
+abbrev pub leastNext : ℕ → ℕ → ℕ
+leastNext zero prev = 0
+leastNext (suc i) prev = prev + 1

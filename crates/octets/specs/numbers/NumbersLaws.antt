@@ -2,7 +2,7 @@
 -- Assumes nothing.
 use Rattle.octets.specs.numbers.Numbers.{indexAnswer, leastNext, indexOf}
 use mathlib.Core.Path.{ap, _≡_, refl, sym, _∙_}
-use Prim.Native.Nat.{ℕ, _+_, _≤_, _<_, suc}
+use Prim.Native.Nat.{ℕ, _+_, _≤_, _<_, suc, zero}
 use mathlib.Core.Option.{Option, none, some}
 use native.Mathlib.Omega.{arith}
 use Rattle.octets.specs.declared.numbers.Index.the-variants.{Place as IndexPlace, Nowhere}
@@ -34,15 +34,16 @@ index-nowhere o e = rw (sym e)
 
 -- ---- ids
 
-pub above-first : (first : Bool) (prev id : ℕ) → first ≡ true → true ≡ leb (leastNext first prev) id
-above-first first prev id e = rw e (sym (le-leb 0 id (omega arith)))
+pub above-first : (before prev next : ℕ) → before ≡ 0 → true ≡ leb (leastNext before prev) next
+above-first before prev next e = rw e (sym (le-leb 0 next (omega arith)))
 
-pub above-next : (first : Bool) (prev id : ℕ) → first ≡ false → ltb prev id ≡ leb (leastNext first prev) id
-above-next first prev id e = rw e (go (ltb prev id) refl)
+pub above-next : (before prev next : ℕ) → (before ≡ 0 → ⊥) → ltb prev next ≡ leb (leastNext before prev) next
+above-next zero prev next e = absurd (e refl)
+above-next (suc i) prev next e = go (ltb prev next) refl
   where
-    go : (t : Bool) → ltb prev id ≡ t → t ≡ leb (prev + 1) id
-    go true h = let k : prev < id = ltb-true prev id h in sym (le-leb (prev + 1) id (omega arith))
-    go false h = let k : id ≤ prev = ltb-false prev id h in sym (lt-leb (prev + 1) id (omega arith))
+    go : (t : Bool) → ltb prev next ≡ t → t ≡ leb (prev + 1) next
+    go true h = let k : prev < next = ltb-true prev next h in sym (le-leb (prev + 1) next (omega arith))
+    go false h = let k : next ≤ prev = ltb-false prev next h in sym (lt-leb (prev + 1) next (omega arith))
 
 -- ---- an index in a list
 

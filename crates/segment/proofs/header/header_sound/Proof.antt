@@ -1,5 +1,6 @@
 -- `segment::header::header_sound` meets its contract: each test that fails decides, and where all hold the last one does.
 -- Assumes nothing.
+use Prim.Native.Nat.{ℕ}
 use mathlib.Core.Path.{sym, ap, _∙_}
 use native.Mathlib.Omega.{arith}
 use lib.Dec.{leb}
@@ -7,6 +8,7 @@ use lib.Seq.{length-take-le}
 use borrow.Author.Tests.{not-true, not-false, ne-eqb}
 use Rattle.segment.specs.Header.{flagsHeld}
 use Rattle.octets.specs.numbers.Numbers.{leastNext}
+use Rattle.segment.specs.Step.{leastId}
 use Rattle.segment.specs.HeaderLaws.{head-fails, head-holds}
 use borrow.Author.Needs.{needs}
 use Rattle.segment.proofs.header.header_sound.Statement.{statement}
@@ -39,7 +41,7 @@ returns-7 c = head-fails _ _ 6 (sym (c .before .is-zero2 .ensures) ∙ not-true 
 
 returns-8 : tie.Need-returns-8
 returns-8 c =
-    let e7 = c .before .before in
+    let e7 = c .before .before .before in
     let e6 = e7 .before .before .before in
     let e5 = e6 .before .before .before in
     let fh = e5 .before .before .before in
@@ -55,7 +57,9 @@ returns-8 c =
     (e5 .if5 .left)
     (sym (e6 .before .is-zero .ensures) ∙ not-false _ (e6 .if6 .left))
     (sym (e7 .before .is-zero2 .ensures) ∙ not-false _ (e7 .if7 .left))
-    (c .follows .ensures ∙ ap (leb (leastNext (s .args .first) (s .args .prev))) (c .before .u64-at .ensures))
+    (c .follows .ensures
+    ∙ ap (λ (n : ℕ). leb (leastNext n (s .args .prev)) (c .before .u64-at .result)) (c .before .before .links-before .ensures)
+    ∙ ap (leb (leastId (s .args .first) (s .args .prev))) (c .before .u64-at .ensures))
 
 pub header-sound-spec : {M : Type 1} → statement M
 header-sound-spec =
@@ -64,4 +68,4 @@ header-sound-spec =
     slice-aggregate-same (search needs) (search needs) returns (search needs) returns-2 (search needs)
     (search needs) returns-3 (search needs) (search needs) returns-4 (search needs) returns-5 (search needs)
     (search needs) (search needs) (search needs) returns-6 (search needs) (search needs) (search needs)
-    (search needs) returns-7 (search needs) (search needs) returns-8)
+    (search needs) returns-7 (search needs) (search needs) (search needs) returns-8)
