@@ -27,7 +27,7 @@ pub fn index_of(ids: &[u64], n: usize, x: u64) -> Index
 }
 
 // Whether a number may follow some others: the first may be any, and each other is above the one before. It takes how
-// many there were, not whether there were any: loops over many are a third quicker so.
+// many there were, which loops count anyway.
 pub fn follows(before: usize, prev: u64, next: u64) -> bool
     ensures { λ r. ⌜ r ≡ leb (leastNext before prev) next ⌝ }
 {
