@@ -40,9 +40,9 @@ pub fn put_bodies(
     requires { ⌜ (batchHeld (now batch) ≡ true) × (bodiesEnd start (bodiesOf (now batch)) ≤ length (now buf)) ⌝ }
     requires { ⌜ («first_id» + bodyCount (now batch) < 2 ^ 64)
         × (kept + bodyCount (now batch) ≤ length (now offsets)) ⌝ }
-    ensures { λ _. ⌜ now (buf .exit) ≡ over (now (buf .entry)) start
+    ensures buf { λ _. ⌜ now (buf .exit) ≡ over (now (buf .entry)) start
         (bodyBytes «first_id» timestamp (bodiesOf (now (batch .entry)))) ⌝ }
-    ensures { λ _. ⌜ now (offsets .exit) ≡ over (now (offsets .entry)) kept
+    ensures offsets { λ _. ⌜ now (offsets .exit) ≡ over (now (offsets .entry)) kept
         (offsetsOf (bodyLinks start «first_id» timestamp (bodiesOf (now (batch .entry))))) ⌝ }
 {
     let m = octets::le::u32_at(batch, 0) as usize;

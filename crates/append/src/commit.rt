@@ -51,9 +51,9 @@ pub fn commit(
     requires { ⌜ (batchHeld (now batch) ≡ true) × ((length (now offsets) ≡ most)
         × (length (now states) ≡ maxEntries)) ⌝ }
     requires { ⌜ Base (take start (now buf)) (now offsets) start kept first last ⌝ }
-    ensures { λ r. ⌜ appendedAnswer r ≡ commitAnswer (length (now (buf .entry)))
+    ensures answer { λ r. ⌜ appendedAnswer r ≡ commitAnswer (length (now (buf .entry)))
         (opened (take start (now (buf .entry)))) (bodiesOf (now (batch .entry))) ⌝ }
-    ensures { λ _. ⌜ now (buf .exit) ≡ commitBuffer (opened (take start (now (buf .entry)))) (now (buf .entry))
+    ensures buf { λ _. ⌜ now (buf .exit) ≡ commitBuffer (opened (take start (now (buf .entry)))) (now (buf .entry))
         (bodiesOf (now (batch .entry))) (now (states .entry)) timestamp ⌝ }
 {
     let m = octets::le::u32_at(batch, 0) as usize;

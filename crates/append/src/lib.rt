@@ -40,9 +40,9 @@ fn batch_number(batch: &[u8]) -> u32
 fn read_entries(file: &[u8], offsets: &[u64], entry_ids: &mut [u64], kinds: &mut [u8])
     requires { ⌜ (length (now offsets) ≤ length (now «entry_ids»)) × (length (now offsets) ≤ length (now kinds)) ⌝ }
     requires { ⌜ Inside (now file) (now offsets) ⌝ }
-    ensures { λ _. ⌜ now («entry_ids» .exit) ≡ over (now («entry_ids» .entry)) 0
+    ensures entry_ids { λ _. ⌜ now («entry_ids» .exit) ≡ over (now («entry_ids» .entry)) 0
         (entryIdsAt (now (file .entry)) (now (offsets .entry))) ⌝ }
-    ensures { λ _. ⌜ now (kinds .exit) ≡ over (now (kinds .entry)) 0
+    ensures kinds { λ _. ⌜ now (kinds .exit) ≡ over (now (kinds .entry)) 0
         (kindsAt (now (file .entry)) (now (offsets .entry))) ⌝ }
 {
     let mut i: usize = 0;
@@ -66,9 +66,10 @@ fn retire_states(
     requires { ⌜ (most ≤ length (now offsets)) × (now states ≡ replicate maxEntries 0) ⌝ }
     requires { ⌜ Indexed (now file) (now offsets) ⌝ }
     requires { ⌜ ManifestAt (now file) manifest count ⌝ }
-    ensures { λ r. ⌜ r ≡ retireHeld (oldLinks (opened (now (file .entry)))) (oldStates (opened (now (file .entry))))
+    ensures answer { λ r. ⌜ r ≡ retireHeld (oldLinks (opened (now (file .entry))))
+        (oldStates (opened (now (file .entry))))
         (now (ids .entry)) ⌝ }
-    ensures { λ r. ⌜ (r ≡ true → now (states .exit) ≡ retired (oldLinks (opened (now (file .entry))))
+    ensures states { λ r. ⌜ (r ≡ true → now (states .exit) ≡ retired (oldLinks (opened (now (file .entry))))
         (oldStates (opened (now (file .entry)))) (now (ids .entry)) ++ replicate (maxEntries - count) 0) ⌝ }
 {
     let body = manifest + 64;

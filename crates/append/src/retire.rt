@@ -12,9 +12,9 @@ use octets::numbers::Index;
 pub fn mark(entry_ids: &[u64], kinds: &[u8], states: &mut [u8], ids: &[u64]) -> bool
     requires { ⌜ (length (now kinds) ≡ length (now «entry_ids»)) × (length (now states) ≡ length (now «entry_ids»)) ⌝ }
     requires { ⌜ Rises 0 (now «entry_ids») ⌝ }
-    ensures { λ r. ⌜ r ≡ retireHeldBy (now («entry_ids» .entry)) (now (kinds .entry)) (now (states .entry))
+    ensures answer { λ r. ⌜ r ≡ retireHeldBy (now («entry_ids» .entry)) (now (kinds .entry)) (now (states .entry))
         (now (ids .entry)) ⌝ }
-    ensures { λ r. ⌜ (r ≡ true → now (states .exit) ≡ retiredBy (now («entry_ids» .entry)) (now (states .entry))
+    ensures states { λ r. ⌜ (r ≡ true → now (states .exit) ≡ retiredBy (now («entry_ids» .entry)) (now (states .entry))
         (now (ids .entry))) ⌝ }
 {
     let mut j: usize = 0;

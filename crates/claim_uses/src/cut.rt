@@ -48,9 +48,9 @@ pub fn append_and_cut(
     id: u64,
     out: &mut [u8],
 ) -> CutRead
-    ensures { λ r. ⌜ CutReadPromise (now (buf .entry)) n (now (batch .entry)) (now (ids .entry)) k id
+    ensures answer { λ r. ⌜ CutReadPromise (now (buf .entry)) n (now (batch .entry)) (now (ids .entry)) k id
         (now (out .entry)) (now (out .exit)) r ⌝ }
-    ensures { λ _. ⌜ now (buf .exit) ≡ appendBuffer (now (buf .entry)) n (now (batch .entry))
+    ensures buf { λ _. ⌜ now (buf .exit) ≡ appendBuffer (now (buf .entry)) n (now (batch .entry))
         (now (ids .entry)) timestamp ⌝ }
 {
     if n > buf.len() as u64 {

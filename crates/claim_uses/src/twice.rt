@@ -27,9 +27,9 @@ pub fn append_twice(
     retire: &[u64],
     timestamp: u64,
 ) -> Twice
-    ensures { λ r. ⌜ TwicePromise (now (buf .entry)) (now (first .entry)) (now (second .entry))
+    ensures answer { λ r. ⌜ TwicePromise (now (buf .entry)) (now (first .entry)) (now (second .entry))
         (now (retire .entry)) timestamp r ⌝ }
-    ensures { λ _. ⌜ now (buf .exit) ≡ twiceBuffer (now (buf .entry)) (now (first .entry)) (now (second .entry))
+    ensures buf { λ _. ⌜ now (buf .exit) ≡ twiceBuffer (now (buf .entry)) (now (first .entry)) (now (second .entry))
         (now (retire .entry)) timestamp ⌝ }
 {
     let a = append::append(buf, 0, first, &retire[..0], timestamp);

@@ -48,8 +48,8 @@ pub fn put_payload(
         × (length (now offsets) ≤ length (now states)) ⌝ }
     requires { ⌜ Inside (now file) (now offsets) ⌝ }
     requires { ⌜ offset + 64 + round64 (payloadLength (length (now offsets))) < 2 ^ 64 ⌝ }
-    ensures { λ r. ⌜ r ≡ payloadLength (length (now (offsets .entry))) ⌝ }
-    ensures { λ _. ⌜ now (buf .exit) ≡ over (now (buf .entry)) 0
+    ensures answer { λ r. ⌜ r ≡ payloadLength (length (now (offsets .entry))) ⌝ }
+    ensures buf { λ _. ⌜ now (buf .exit) ≡ over (now (buf .entry)) 0
         (payloadAt (now (file .entry)) (now (offsets .entry)) (now (states .entry)) offset id) ⌝ }
 {
     let c = offsets.len();

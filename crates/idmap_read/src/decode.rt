@@ -11,8 +11,8 @@ use answers::Wrote;
 // The ids of a raw map, whose head is read already.
 fn decode_raw(s: &[u8], count: usize, ids: &mut [u64]) -> Wrote
     requires { ⌜ (count ≤ maxVectors) × (count ≤ length (now ids)) ⌝ }
-    ensures { λ r. ⌜ r ≡ mapAnswer (rawMap count (now (s .entry))) ⌝ }
-    ensures { λ _. ⌜ Filled (rawMap count (now (s .entry))) (now (ids .exit)) ⌝ }
+    ensures answer { λ r. ⌜ r ≡ mapAnswer (rawMap count (now (s .entry))) ⌝ }
+    ensures ids { λ _. ⌜ Filled (rawMap count (now (s .entry))) (now (ids .exit)) ⌝ }
 {
     let end = 7 + 8 * count;
     if s.len() < end {
@@ -35,8 +35,8 @@ fn decode_raw(s: &[u8], count: usize, ids: &mut [u64]) -> Wrote
 // A map of count ids: its length, and the ids at the front of a list that has room for them.
 pub fn decode(s: &[u8], count: usize, ids: &mut [u64]) -> Wrote
     requires { ⌜ (1 ≤ count) × ((count ≤ maxVectors) × (count ≤ length (now ids))) ⌝ }
-    ensures { λ r. ⌜ r ≡ mapAnswer (mapOf count (now (s .entry))) ⌝ }
-    ensures { λ _. ⌜ Filled (mapOf count (now (s .entry))) (now (ids .exit)) ⌝ }
+    ensures answer { λ r. ⌜ r ≡ mapAnswer (mapOf count (now (s .entry))) ⌝ }
+    ensures ids { λ _. ⌜ Filled (mapOf count (now (s .entry))) (now (ids .exit)) ⌝ }
 {
     if s.len() < 7 {
         return Wrote::Refused(5);

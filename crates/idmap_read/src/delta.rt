@@ -68,8 +68,8 @@ fn group_after(left: usize, g: usize) -> usize
 // The ids of a delta map with restarts every r, whose head is read already.
 pub fn decode_delta(s: &[u8], count: usize, r: usize, ids: &mut [u64]) -> Wrote
     requires { ⌜ (count ≤ maxVectors) × ((count ≤ length (now ids)) × ((0 < r) × (r < 65536))) ⌝ }
-    ensures { λ a. ⌜ a ≡ mapAnswer (deltaMap r count (now (s .entry))) ⌝ }
-    ensures { λ _. ⌜ Filled (deltaMap r count (now (s .entry))) (now (ids .exit)) ⌝ }
+    ensures answer { λ a. ⌜ a ≡ mapAnswer (deltaMap r count (now (s .entry))) ⌝ }
+    ensures ids { λ _. ⌜ Filled (deltaMap r count (now (s .entry))) (now (ids .exit)) ⌝ }
 {
     let start = 7 + 4 * ((count + (r - 1)) / r);
     if s.len() < start {

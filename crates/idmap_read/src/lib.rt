@@ -27,8 +27,8 @@ fn copy_ids(ids: &mut [u64], from: &[u64], n: usize)
 // lent one as it was.
 fn read_through(s: &[u8], count: usize, ids: &mut [u64], scratch: &mut [u64]) -> Wrote
     requires { ⌜ (1 ≤ count) × ((count ≤ maxVectors) × (count ≤ length (now scratch))) ⌝ }
-    ensures { λ r. ⌜ r ≡ readAnswer (mapOf count (now (s .entry))) (now (ids .entry)) ⌝ }
-    ensures { λ _. ⌜ now (ids .exit) ≡ readBuffer (mapOf count (now (s .entry))) (now (ids .entry)) ⌝ }
+    ensures answer { λ r. ⌜ r ≡ readAnswer (mapOf count (now (s .entry))) (now (ids .entry)) ⌝ }
+    ensures ids { λ _. ⌜ now (ids .exit) ≡ readBuffer (mapOf count (now (s .entry))) (now (ids .entry)) ⌝ }
 {
     let m = crate::decode::decode(s, count, scratch);
     match m {
@@ -45,8 +45,8 @@ fn read_through(s: &[u8], count: usize, ids: &mut [u64], scratch: &mut [u64]) ->
 
 // A short map takes a short list, so that it does not pay for a long one.
 pub fn read(s: &[u8], count: u64, ids: &mut [u64]) -> Wrote
-    ensures { λ r. ⌜ r ≡ readAnswer (mapOf count (now (s .entry))) (now (ids .entry)) ⌝ }
-    ensures { λ _. ⌜ now (ids .exit) ≡ readBuffer (mapOf count (now (s .entry))) (now (ids .entry)) ⌝ }
+    ensures answer { λ r. ⌜ r ≡ readAnswer (mapOf count (now (s .entry))) (now (ids .entry)) ⌝ }
+    ensures ids { λ _. ⌜ now (ids .exit) ≡ readBuffer (mapOf count (now (s .entry))) (now (ids .entry)) ⌝ }
 {
     if count < 1 {
         return Wrote::Refused(5);

@@ -65,8 +65,8 @@ pub fn deltas_len(ids: &[u64], r: usize) -> usize
 // The restart offset of a group that begins, and the place behind it.
 fn put_restart(buf: &mut [u8], place: usize, left: usize, at: usize) -> usize
     requires { ⌜ place + length (restartOf left at) ≤ length (now buf) ⌝ }
-    ensures { λ r. ⌜ r ≡ place + length (restartOf left at) ⌝ }
-    ensures { λ _. ⌜ now (buf .exit) ≡ over (now (buf .entry)) place (restartOf left at) ⌝ }
+    ensures answer { λ r. ⌜ r ≡ place + length (restartOf left at) ⌝ }
+    ensures buf { λ _. ⌜ now (buf .exit) ≡ over (now (buf .entry)) place (restartOf left at) ⌝ }
 {
     if left == 0 {
         octets::le::put(buf, place, 4, at as u64);

@@ -52,9 +52,9 @@ pub fn put(buf: &mut [u8], ids: &[u64], encoding: u64, interval: u64)
 
 // The map of ids at the front of a buffer, and its length.
 pub fn write(buf: &mut [u8], ids: &[u64], encoding: u64, interval: u64) -> Wrote
-    ensures { λ r. ⌜ r ≡ writeAnswer (mapBad (now (ids .entry)) encoding interval)
+    ensures answer { λ r. ⌜ r ≡ writeAnswer (mapBad (now (ids .entry)) encoding interval)
         (mapBytes (now (ids .entry)) encoding interval) (now (buf .entry)) ⌝ }
-    ensures { λ _. ⌜ now (buf .exit) ≡ writeBuffer (mapBad (now (ids .entry)) encoding interval)
+    ensures buf { λ _. ⌜ now (buf .exit) ≡ writeBuffer (mapBad (now (ids .entry)) encoding interval)
         (mapBytes (now (ids .entry)) encoding interval) (now (buf .entry)) ⌝ }
 {
     let bad = crate::refusal::refusal(ids, encoding, interval);

@@ -14,9 +14,9 @@ ghost use Rattle.segment.specs.Header.{lengthAt};
 fn put_entry(text: &mut [u8], at: usize, file: &[u8], p: usize, state: u8) -> usize
     requires { ⌜ p + (64 + lengthAt (now file) p) ≤ length (now file) ⌝ }
     requires { ⌜ at + 97 ≤ length (now text) ⌝ }
-    ensures { λ r. ⌜ Written (now (text .entry)) (now (text .exit)) at
+    ensures text { λ r. ⌜ Written (now (text .entry)) (now (text .exit)) at
         (textLineAt (now (file .entry)) p (stateWord state)) r ⌝ }
-    ensures { λ r. ⌜ r ≤ at + 97 ⌝ }
+    ensures bound { λ r. ⌜ r ≤ at + 97 ⌝ }
 {
     if state == 0 {
         return crate::line::put_segment(text, at, file, p, b"live");
@@ -36,8 +36,9 @@ pub fn put_entries(
     requires { ⌜ (most ≤ length (now offsets)) × (at + 97 * count ≤ length (now text)) ⌝ }
     requires { ⌜ Indexed (now file) (now offsets) ⌝ }
     requires { ⌜ ManifestAt (now file) manifest count ⌝ }
-    ensures { λ r. ⌜ Written (now (text .entry)) (now (text .exit)) at (entryLines (opened (now (file .entry)))) r ⌝ }
-    ensures { λ r. ⌜ r ≤ at + 97 * count ⌝ }
+    ensures text { λ r. ⌜ Written (now (text .entry)) (now (text .exit)) at
+        (entryLines (opened (now (file .entry)))) r ⌝ }
+    ensures bound { λ r. ⌜ r ≤ at + 97 * count ⌝ }
 {
     let mut end = at;
     let mut i: usize = 0;

@@ -11,8 +11,8 @@ use answers::Wrote;
 // The text about a file at the front of a buffer, and its length; 9 where there is no room. It is put together in an
 // array of our own, since a refusal changes no byte.
 pub fn list(file: &[u8], buffer: &mut [u8]) -> Wrote
-    ensures { λ r. ⌜ r ≡ writeAnswer 0 (listText (now (file .entry))) (now (buffer .entry)) ⌝ }
-    ensures { λ _. ⌜ now (buffer .exit) ≡ writeBuffer 0 (listText (now (file .entry))) (now (buffer .entry)) ⌝ }
+    ensures answer { λ r. ⌜ r ≡ writeAnswer 0 (listText (now (file .entry))) (now (buffer .entry)) ⌝ }
+    ensures buffer { λ _. ⌜ now (buffer .exit) ≡ writeBuffer 0 (listText (now (file .entry))) (now (buffer .entry)) ⌝ }
 {
     let mut text = [0u8; 102400];
     let n = crate::text::put_text(&mut text, file);

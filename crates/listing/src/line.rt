@@ -10,8 +10,8 @@ ghost use Rattle.segment.specs.Header.{lengthAt};
 // Two columns.
 fn put_columns(text: &mut [u8], at: usize, x: u64, y: u64) -> usize
     requires { ⌜ at + 42 ≤ length (now text) ⌝ }
-    ensures { λ r. ⌜ Written (now (text .entry)) (now (text .exit)) at (column x ++ column y) r ⌝ }
-    ensures { λ r. ⌜ r ≤ at + 42 ⌝ }
+    ensures text { λ r. ⌜ Written (now (text .entry)) (now (text .exit)) at (column x ++ column y) r ⌝ }
+    ensures bound { λ r. ⌜ r ≤ at + 42 ⌝ }
 {
     let next = octets::text::put_number(text, at, b"", x, b" ");
     octets::text::put_number(text, next, b"", y, b" ")
@@ -20,8 +20,8 @@ fn put_columns(text: &mut [u8], at: usize, x: u64, y: u64) -> usize
 // Whether a segment is whole, as the end of its line.
 fn put_check(text: &mut [u8], at: usize, whole: bool) -> usize
     requires { ⌜ at + 5 ≤ length (now text) ⌝ }
-    ensures { λ r. ⌜ Written (now (text .entry)) (now (text .exit)) at (checkWord whole) r ⌝ }
-    ensures { λ r. ⌜ r ≤ at + 5 ⌝ }
+    ensures text { λ r. ⌜ Written (now (text .entry)) (now (text .exit)) at (checkWord whole) r ⌝ }
+    ensures bound { λ r. ⌜ r ≤ at + 5 ⌝ }
 {
     if whole {
         return octets::text::put_bytes(text, at, b" ok\n");
@@ -33,9 +33,9 @@ fn put_check(text: &mut [u8], at: usize, whole: bool) -> usize
 pub fn put_segment(text: &mut [u8], at: usize, file: &[u8], p: usize, word: &[u8]) -> usize
     requires { ⌜ p + (64 + lengthAt (now file) p) ≤ length (now file) ⌝ }
     requires { ⌜ (at + 97 ≤ length (now text)) × (length (now word) ≤ 8) ⌝ }
-    ensures { λ r. ⌜ Written (now (text .entry)) (now (text .exit)) at
+    ensures text { λ r. ⌜ Written (now (text .entry)) (now (text .exit)) at
         (textLineAt (now (file .entry)) p (now (word .entry))) r ⌝ }
-    ensures { λ r. ⌜ r ≤ at + 97 ⌝ }
+    ensures bound { λ r. ⌜ r ≤ at + 97 ⌝ }
 {
     let length = octets::le::u64_at(file, p + segment::fields::LENGTH);
     let kind = file[p + segment::fields::KIND] as u64;

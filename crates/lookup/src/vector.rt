@@ -19,8 +19,8 @@ pub enum ValuePlace {
 // The vector's bytes in dimension order at the front of a buffer: 1, 2, then the search with its 4, 5, 6, 7, then 8,
 // then 9.
 pub fn vector(file: &[u8], id: u64, buf: &mut [u8]) -> Vector
-    ensures { λ r. ⌜ r ≡ vectorCase (now (file .entry)) id (now (buf .entry)) ⌝ }
-    ensures { λ _. ⌜ now (buf .exit) ≡ vectorAfter (now (file .entry)) id (now (buf .entry)) ⌝ }
+    ensures answer { λ r. ⌜ r ≡ vectorCase (now (file .entry)) id (now (buf .entry)) ⌝ }
+    ensures buf { λ _. ⌜ now (buf .exit) ≡ vectorAfter (now (file .entry)) id (now (buf .entry)) ⌝ }
 {
     let place = crate::in_file::find(file, id);
     match place {

@@ -31,9 +31,9 @@ pub fn put_decimal(buf: &mut [u8], at: usize, n: u64) -> usize
 // A number between two words.
 pub fn put_number(buf: &mut [u8], at: usize, before: &[u8], n: u64, behind: &[u8]) -> usize
     requires { ⌜ at + length (now before) + 20 + length (now behind) ≤ length (now buf) ⌝ }
-    ensures { λ r. ⌜ Written (now (buf .entry)) (now (buf .exit)) at
+    ensures buf { λ r. ⌜ Written (now (buf .entry)) (now (buf .exit)) at
         (now (before .entry) ++ (decimal n ++ now (behind .entry))) r ⌝ }
-    ensures { λ r. ⌜ r ≤ at + length (now (before .entry)) + 20 + length (now (behind .entry)) ⌝ }
+    ensures bound { λ r. ⌜ r ≤ at + length (now (before .entry)) + 20 + length (now (behind .entry)) ⌝ }
 {
     let first = put_bytes(buf, at, before);
     let last = put_decimal(buf, first, n);

@@ -65,8 +65,9 @@ fn find_from_end(file: &[u8], offsets: &[u64], n: usize) -> Opened
 // a file above the limit, then 2 where no manifest is confirmed.
 pub fn open_with(file: &[u8], offsets: &mut [u64]) -> Opened
     requires { ⌜ most ≤ length (now offsets) ⌝ }
-    ensures { λ r. ⌜ r ≡ openedCase (now (file .entry)) ⌝ }
-    ensures { λ _. ⌜ (length (now (file .entry)) ≤ maxFile → Indexed (now (file .entry)) (now (offsets .exit))) ⌝ }
+    ensures answer { λ r. ⌜ r ≡ openedCase (now (file .entry)) ⌝ }
+    ensures offsets { λ _. ⌜ (length (now (file .entry)) ≤ maxFile
+        → Indexed (now (file .entry)) (now (offsets .exit))) ⌝ }
 {
     if file.len() > answers::limits::MAX_FILE {
         return Opened::Refused(1);

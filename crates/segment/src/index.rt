@@ -13,8 +13,8 @@ pub const MOST: usize = answers::limits::MAX_ENTRIES + 1;
 // The offsets of the first links, at most MOST, at the front of a list; and how many they are.
 pub fn collect(file: &[u8], offsets: &mut [u64]) -> usize
     requires { ⌜ most ≤ length (now offsets) ⌝ }
-    ensures { λ r. ⌜ r ≡ length (take most (chain (now (file .entry)))) ⌝ }
-    ensures { λ r. ⌜ take r (now (offsets .exit)) ≡ offsetsOf (take most (chain (now (file .entry)))) ⌝ }
+    ensures answer { λ r. ⌜ r ≡ length (take most (chain (now (file .entry)))) ⌝ }
+    ensures offsets { λ r. ⌜ take r (now (offsets .exit)) ≡ offsetsOf (take most (chain (now (file .entry)))) ⌝ }
 {
     let mut n: usize = 0;
     let mut at: usize = 0;

@@ -50,8 +50,8 @@ pub fn put_segment(
     payload: &[u8],
 ) -> usize
     requires { ⌜ 64 + round64 (length (now payload)) ≤ length (now buf) ⌝ }
-    ensures { λ r. ⌜ r ≡ length (segment kind flags id timestamp (now (payload .entry))) ⌝ }
-    ensures { λ _. ⌜ now (buf .exit) ≡ over (now (buf .entry)) 0
+    ensures answer { λ r. ⌜ r ≡ length (segment kind flags id timestamp (now (payload .entry))) ⌝ }
+    ensures buf { λ _. ⌜ now (buf .exit) ≡ over (now (buf .entry)) 0
         (segment kind flags id timestamp (now (payload .entry))) ⌝ }
 {
     let len = payload.len();

@@ -23,8 +23,8 @@ pub fn encoded_len(x: u64) -> usize
 // A number's varint at a place that has room for it.
 pub fn put(out: &mut [u8], at: usize, x: u64) -> usize
     requires { ⌜ at + length (varintOf x) ≤ length (now out) ⌝ }
-    ensures { λ r. ⌜ r ≡ at + length (varintOf x) ⌝ }
-    ensures { λ _. ⌜ now (out .exit) ≡ over (now (out .entry)) at (varintOf x) ⌝ }
+    ensures answer { λ r. ⌜ r ≡ at + length (varintOf x) ⌝ }
+    ensures out { λ _. ⌜ now (out .exit) ≡ over (now (out .entry)) at (varintOf x) ⌝ }
 {
     let mut d: usize = 0;
     let mut rest = x;
@@ -39,8 +39,8 @@ pub fn put(out: &mut [u8], at: usize, x: u64) -> usize
 
 // A number's varint at the front of a buffer, and its length; or 9, with the buffer as it was.
 pub fn write(out: &mut [u8], x: u64) -> Wrote
-    ensures { λ r. ⌜ r ≡ writeAnswer 0 (varintOf x) (now (out .entry)) ⌝ }
-    ensures { λ _. ⌜ now (out .exit) ≡ writeBuffer 0 (varintOf x) (now (out .entry)) ⌝ }
+    ensures answer { λ r. ⌜ r ≡ writeAnswer 0 (varintOf x) (now (out .entry)) ⌝ }
+    ensures out { λ _. ⌜ now (out .exit) ≡ writeBuffer 0 (varintOf x) (now (out .entry)) ⌝ }
 {
     if out.len() < encoded_len(x) {
         return Wrote::Refused(9);

@@ -15,8 +15,8 @@ use vecseg::Vector;
 
 // 5, 6, 7 for a payload that is not sound; 8 where no block holds the id; 9 where the buffer is short.
 pub fn read(payload: &[u8], id: u64, buf: &mut [u8]) -> Vector
-    ensures { λ r. ⌜ r ≡ vectorIn (now (payload .entry)) id (now (buf .entry)) ⌝ }
-    ensures { λ _. ⌜ now (buf .exit) ≡ vectorBuffer (now (payload .entry)) id (now (buf .entry)) ⌝ }
+    ensures answer { λ r. ⌜ r ≡ vectorIn (now (payload .entry)) id (now (buf .entry)) ⌝ }
+    ensures buf { λ _. ⌜ now (buf .exit) ≡ vectorBuffer (now (payload .entry)) id (now (buf .entry)) ⌝ }
 {
     let bad = crate::check::check(payload);
     if bad != 0 {

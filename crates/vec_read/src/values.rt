@@ -56,9 +56,9 @@ pub fn read_vector(
     buf: &mut [u8],
 ) -> Wrote
     requires { ⌜ Bounds (length (now s)) offset count dim (width dtype) index ⌝ }
-    ensures { λ r. ⌜ r ≡ writeAnswer 0 (vectorOf (now (s .entry)) (placeWith offset count dim dtype index))
+    ensures answer { λ r. ⌜ r ≡ writeAnswer 0 (vectorOf (now (s .entry)) (placeWith offset count dim dtype index))
         (now (buf .entry)) ⌝ }
-    ensures { λ _. ⌜ now (buf .exit) ≡ writeBuffer 0 (vectorOf (now (s .entry))
+    ensures buf { λ _. ⌜ now (buf .exit) ≡ writeBuffer 0 (vectorOf (now (s .entry))
         (placeWith offset count dim dtype index)) (now (buf .entry)) ⌝ }
 {
     let w = crate::width::width_of(dtype as u64);

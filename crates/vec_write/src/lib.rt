@@ -53,10 +53,10 @@ pub fn write(
     encoding: u64,
     interval: u64,
 ) -> Wrote
-    ensures { λ r. ⌜ r ≡ writeAnswer (vecBad (now (ids .entry))
+    ensures answer { λ r. ⌜ r ≡ writeAnswer (vecBad (now (ids .entry))
         (now (columns .entry)) dim dtype tier encoding interval)
         (vecBytes (now (ids .entry)) (now (columns .entry)) dim dtype tier encoding interval) (now (buf .entry)) ⌝ }
-    ensures { λ _. ⌜ now (buf .exit) ≡ writeBuffer (vecBad (now (ids .entry))
+    ensures buf { λ _. ⌜ now (buf .exit) ≡ writeBuffer (vecBad (now (ids .entry))
         (now (columns .entry)) dim dtype tier encoding interval)
         (vecBytes (now (ids .entry)) (now (columns .entry)) dim dtype tier encoding interval) (now (buf .entry)) ⌝ }
 {
