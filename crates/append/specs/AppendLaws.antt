@@ -16,8 +16,7 @@ use Rattle.segment.specs.Header.{Link}
 use Rattle.manifest.specs.Opening.{opened}
 use Rattle.batch.specs.Form.{batchHeld, bodiesOf}
 use Rattle.appending.specs.Retire.{retireHeld}
-use Rattle.appending.specs.Append.{startOf, oldLinks, oldStates, newCount, newStates, newPayload, newBytes, vectorsBad}
-use Rattle.appending.specs.Append.{checked, isNone, appendChecks, answerOn, appendAnswer, bufferOn, appendBuffer, Appends, appendedAnswer}
+use Rattle.appending.specs.Append.{startOf, oldLinks, oldStates, newCount, newStates, newPayload, newBytes, vectorsBad, checked, isNone, appendChecks, answerOn, appendAnswer, bufferOn, appendBuffer, Appends, appendedAnswer}
 use Rattle.appending.specs.Accepts.{AllPass, passed, empty-passes}
 use Rattle.appending.specs.declared.Appended.{Appended}
 use Rattle.appending.specs.declared.Appended.the-variants.{Refused}

@@ -10,7 +10,7 @@ use lib.Seq.{take-suc, take-length, length-take-le, getD-drop, drop-drop}
 use Rattle.segment.specs.chain.Chain.{All}
 use Rattle.octets.specs.Over.{over}
 use Rattle.octets.specs.OverLaws.{over-none, over-front}
-use Rattle.octets.specs.le.Le.{leAt, leOf}
+use Rattle.octets.specs.le.Le.{leOf}
 use Rattle.segment.specs.Header.{Link, idAt, kindAt}
 use Rattle.segment.specs.Laws.{linkFront, LinkRead, lies}
 use Rattle.segment.specs.Chained.{offsetsOf}

@@ -19,8 +19,7 @@ use Rattle.segment.specs.WrittenLaws.{linkOf-size}
 use Rattle.manifest.specs.Payload.{manifestKind, payloadLength, confirmed}
 use Rattle.manifest.specs.Opening.{opened, states}
 use Rattle.batch.specs.Form.{Body, bodiesOf}
-use Rattle.appending.specs.Append.{keptLinks, startOf, nextId, bodyLinks, manifestAt, manifestId, newCount, newEnd, newLinks}
-use Rattle.appending.specs.Append.{newStates, newPayload, newBytes, answerOn, appendAnswer, bufferOn, appendBuffer, Appends, Holds}
+use Rattle.appending.specs.Append.{keptLinks, startOf, nextId, bodyLinks, manifestAt, manifestId, newCount, newEnd, newLinks, newStates, newPayload, newBytes, answerOn, appendAnswer, bufferOn, appendBuffer, Appends, Holds}
 use Rattle.appending.specs.Accepts.{Fits, accepted-when}
 use Rattle.appending.specs.Written.{bodies-held, bodies-never}
 use Rattle.appending.specs.Opens.{kept, newManifest, fileWith, cutFile, links-count, new-payload-length, new-states, new-confirmed, new-length, new-exact}

@@ -29,8 +29,7 @@ use Rattle.manifest.specs.Payload.{manifestKind, entrySize, confirmed, manifest
 use Rattle.manifest.specs.Opening.{opened, states}
 use Rattle.batch.specs.Form.{Body}
 use Rattle.appending.specs.Retire.{retireHeld, retired}
-use Rattle.appending.specs.Append.{keptLinks, startOf, nextId, oldLinks, oldStates, keptStates, bodyLinks, bodyBytes}
-use Rattle.appending.specs.Append.{bodiesEnd, manifestAt, manifestId, newCount, newEnd, newLinks, newStates, newPayload, newBytes}
+use Rattle.appending.specs.Append.{keptLinks, startOf, nextId, oldLinks, oldStates, keptStates, bodyLinks, bodyBytes, bodiesEnd, manifestAt, manifestId, newCount, newEnd, newLinks, newStates, newPayload, newBytes}
 use Rattle.appending.specs.Written.{BodyHeld, bodyLinks-length, bodies-exact, afters-bodies, bodies-length}
 use Rattle.appending.specs.Manifest.{Hashed, chain-hashed, bodies-hashed, payload-length, states-back}
 use Rattle.appending.specs.States.{states-append, states-live, retired-length, retired-held}

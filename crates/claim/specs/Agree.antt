@@ -22,8 +22,7 @@ use Rattle.appending.specs.Append.{keptLinks, startOf, nextId, oldStates, keptS
 use Rattle.appending.specs.Accepts.{Fits}
 use Rattle.appending.specs.Opens.{newManifest, fileWith}
 use Rattle.appending.specs.Buffer.{open-with, states-with, with-length, AppendedBy, appended, file-is}
-use Rattle.claim.specs.Model.{Entry, linksOf, statesOf, liveEntry, Model, emptyModel, paired, modelOf, retiredIf}
-use Rattle.claim.specs.Model.{retire, ifAny, joinManifest, joinBody, joinBodies, newManifestEntry, acceptedModel, feed, feedAll}
+use Rattle.claim.specs.Model.{Entry, linksOf, statesOf, liveEntry, Model, emptyModel, paired, modelOf, retiredIf, retire, ifAny, joinManifest, joinBody, joinBodies, newManifestEntry, acceptedModel, feed, feedAll}
 use Rattle.claim.specs.Demand3.{Call, isAccepted, fedOf, fedAll, fileAfter, Run, stop, call}
 
 -- what opening finds in a file of this model

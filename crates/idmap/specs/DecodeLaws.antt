@@ -6,10 +6,10 @@ use mathlib.Core.Bool.{true, false}
 use mathlib.Core.List.{List, [], _∷_, _++_}
 use native.Mathlib.Numerals.{add-one}
 use native.Mathlib.Omega.{arith}
-use lib.Dec.{eqb, leb}
+use lib.Dec.{leb}
 use lib.ListN.{length, take, drop, set}
 use lib.Seq.{drop-drop, take-suc-set, length-take-le}
-use borrow.Author.Tests.{le-leb, lt-leb, ne-eqb}
+use borrow.Author.Tests.{le-leb, lt-leb}
 use Rattle.octets.specs.le.Le.{leOf, leAt}
 use Rattle.octets.specs.numbers.Numbers.{leastNext}
 use Rattle.answers.specs.declared.Wrote.the-variants.{Length, Refused}

@@ -7,7 +7,7 @@ ghost use Rattle.manifest.specs.Opening.{opened, tried};
 ghost use Rattle.opening.specs.Indexed.{Indexed};
 ghost use Rattle.reading.specs.Listing.{listFound, listText};
 ghost use Rattle.listing.specs.text.Whole.{OpensAt};
-use manifest::Opened;
+use opening::FileManifest;
 
 // The list of a file that opens. The heading takes 34 bytes, a line at most 97 and the last line at most 52.
 fn put_list(
@@ -41,20 +41,18 @@ pub fn put_text(text: &mut [u8], file: &[u8]) -> usize
         return octets::text::put_number(text, 0, b"refused ", 1, b"\n");
     }
     let mut offsets = [0u64; segment::index::MOST];
-    let found = opening::open_with(file, &mut offsets);
+    let found = opening::file_manifest(file, &mut offsets);
     match found {
-        Opened::Refused(number) => octets::text::put_number(
+        FileManifest::Refused(number) => octets::text::put_number(
             text,
             0,
             b"refused ",
             number as u64,
             b"\n",
         ),
-        Opened::NoManifest { tried: _ } => octets::text::put_number(text, 0, b"refused ", 2, b"\n"),
-        Opened::At {
+        FileManifest::At {
             offset,
             end,
-            id: _,
             count,
             tried,
         } => put_list(text, file, &offsets, offset, end, count, tried),

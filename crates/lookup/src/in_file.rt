@@ -9,7 +9,7 @@ ghost use Rattle.reading.specs.Answers.{hitIn};
 ghost use Rattle.lookup.specs.in_segment.Located.{locatedOf};
 ghost use Rattle.answers.specs.limits.Limits.{maxVectors};
 use crate::in_segment::Located;
-use manifest::Opened;
+use opening::FileManifest;
 
 // The search in the directory of the manifest at an offset, down from its last entry.
 fn find_down(
@@ -73,14 +73,12 @@ pub fn find(file: &[u8], id: u64) -> Located
     ensures { λ r. ⌜ r ≡ locatedOf (hitIn (now (file .entry)) id) ⌝ }
 {
     let mut offsets = [0u64; segment::index::MOST];
-    let found = opening::open_with(file, &mut offsets);
+    let found = opening::file_manifest(file, &mut offsets);
     match found {
-        Opened::Refused(number) => Located::Refused(number),
-        Opened::NoManifest { tried: _ } => Located::Refused(2),
-        Opened::At {
+        FileManifest::Refused(number) => Located::Refused(number),
+        FileManifest::At {
             offset,
             end: _,
-            id: _,
             count,
             tried: _,
         } => {

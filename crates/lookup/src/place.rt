@@ -7,7 +7,7 @@ ghost use Rattle.opening.specs.Indexed.{ManifestAt, Indexed};
 ghost use Rattle.answers.specs.Answer.{number};
 ghost use Rattle.reading.specs.Answers.{partIn};
 ghost use Rattle.reading.specs.Part.{placeOf};
-use manifest::Opened;
+use opening::FileManifest;
 use reading::PayloadPlace;
 
 // The live segment with an id in the directory of the manifest at an offset: 3 where there is none, 4 where the hash
@@ -51,14 +51,12 @@ pub fn payload_place(file: &[u8], id: u64) -> PayloadPlace
     ensures { λ r. ⌜ r ≡ placeOf (partIn (now (file .entry)) id) ⌝ }
 {
     let mut offsets = [0u64; segment::index::MOST];
-    let found = opening::open_with(file, &mut offsets);
+    let found = opening::file_manifest(file, &mut offsets);
     match found {
-        Opened::Refused(number) => PayloadPlace::Refused(number),
-        Opened::NoManifest { tried: _ } => PayloadPlace::Refused(2),
-        Opened::At {
+        FileManifest::Refused(number) => PayloadPlace::Refused(number),
+        FileManifest::At {
             offset,
             end: _,
-            id: _,
             count,
             tried: _,
         } => find_in(file, &offsets, offset, count, id),

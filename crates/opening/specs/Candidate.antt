@@ -5,9 +5,9 @@ use mathlib.Core.Path.{_≡_, refl, sym, ap, subst, _∙_}
 use mathlib.Core.Bool.{Bool}
 use mathlib.Core.List.{List, [], _∷_}
 use native.Mathlib.Omega.{arith}
-use lib.ListN.{length, take, drop, getD}
+use lib.ListN.{length, take, drop}
 use lib.Seq.{take-take}
-use Rattle.octets.specs.le.Le.{leAt, Bytes}
+use Rattle.octets.specs.le.Le.{Bytes}
 use Rattle.segment.specs.Header.{Link, idAt, kindAt, lengthAt}
 use Rattle.segment.specs.Chained.{chain, offsetsOf}
 use Rattle.segment.specs.index.Offsets.{most, linkNo, Stored, stored-few}

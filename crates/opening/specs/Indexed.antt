@@ -13,7 +13,7 @@ use lib.Dec.{eqb, leb}
 use lib.ListN.{length, take, drop, getD, length-map}
 use lib.Seq.{getD-take, getD-drop, take-suc}
 use Rattle.octets.specs.ZeroLaws.{same-equal, and-split}
-use Rattle.octets.specs.le.Le.{Bytes, leAt}
+use Rattle.octets.specs.le.Le.{Bytes}
 use Rattle.answers.specs.limits.Limits.{maxFile, maxEntries}
 use Rattle.segment.specs.chain.Laws.{sizes}
 use Rattle.segment.specs.chain.Chain.{Found, openOf}

@@ -4,8 +4,8 @@ ghost use Prim.Native.Nat.{_+_, _≤_, _<_};
 ghost use lib.ListN.{length};
 ghost use Rattle.manifest.specs.Directory.{entryCase};
 ghost use Rattle.opening.specs.directory.Entry.{entryReadAt};
+use crate::FileManifest;
 use manifest::DirectoryEntry;
-use manifest::Opened;
 
 // The entry of the link whose header begins at p, with the state that stands at s. A confirmed manifest says of a
 // link what the link's own header says; the state stands in the manifest alone.
@@ -30,14 +30,12 @@ pub fn entry(file: &[u8], index: u64) -> DirectoryEntry
     ensures { λ r. ⌜ r ≡ entryCase (now (file .entry)) index ⌝ }
 {
     let mut offsets = [0u64; segment::index::MOST];
-    let found = crate::open_with(file, &mut offsets);
+    let found = crate::file_manifest(file, &mut offsets);
     match found {
-        Opened::Refused(number) => DirectoryEntry::Refused(number),
-        Opened::NoManifest { tried: _ } => DirectoryEntry::Refused(2),
-        Opened::At {
+        FileManifest::Refused(number) => DirectoryEntry::Refused(number),
+        FileManifest::At {
             offset,
             end: _,
-            id: _,
             count,
             tried: _,
         } => {

@@ -11,6 +11,7 @@ ghost use Rattle.manifest.specs.Payload.{confirmed};
 ghost use Rattle.manifest.specs.Opening.{opened, foundCase, openedCase};
 ghost use Rattle.answers.specs.limits.Limits.{maxFile};
 ghost use Rattle.opening.specs.Indexed.{Indexed};
+ghost use Rattle.opening.specs.FileManifest.{manifestOf};
 use manifest::Opened;
 
 // Whether the link with number i, which begins at p, is a confirmed manifest.
@@ -74,6 +75,44 @@ pub fn open_with(file: &[u8], offsets: &mut [u64]) -> Opened
     }
     let n = segment::index::collect(file, offsets);
     find_from_end(file, offsets, n)
+}
+
+// What a call that goes on from the directory learns of the file's manifest: its offset and end, the number of its entries
+// and the boundaries tried; or the number that the call refuses by.
+pub enum FileManifest {
+    At {
+        offset: usize,
+        end: usize,
+        count: usize,
+        tried: usize,
+    },
+    Refused(u32),
+}
+
+// The file's manifest for such a call, with the offsets of the first links.
+pub fn file_manifest(file: &[u8], offsets: &mut [u64]) -> FileManifest
+    requires { ⌜ most ≤ length (now offsets) ⌝ }
+    ensures answer { λ r. ⌜ r ≡ manifestOf (openedCase (now (file .entry))) ⌝ }
+    ensures offsets { λ _. ⌜ (length (now (file .entry)) ≤ maxFile
+        → Indexed (now (file .entry)) (now (offsets .exit))) ⌝ }
+{
+    let found = open_with(file, offsets);
+    match found {
+        Opened::Refused(number) => FileManifest::Refused(number),
+        Opened::NoManifest { tried: _ } => FileManifest::Refused(2),
+        Opened::At {
+            offset,
+            end,
+            id: _,
+            count,
+            tried,
+        } => FileManifest::At {
+            offset,
+            end,
+            count,
+            tried,
+        },
+    }
 }
 
 // The file's manifest.

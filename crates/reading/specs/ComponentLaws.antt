@@ -1,18 +1,16 @@
 -- A component by its kind and by its bytes say the same: the number always, the values unless the bytes are a NaN's.
 -- Assumes nothing.
-use Prim.Native.Nat.{ℕ, _-_, _+_, _*_, _<_, _≤_}
-use mathlib.Core.Path.{_≡_, refl, sym, ap, _∙_}
+use Prim.Native.Nat.{ℕ, _-_, _<_}
+use mathlib.Core.Path.{_≡_, refl, ap, _∙_}
 use mathlib.Core.Bool.{Bool, true, false, cond, not}
 use mathlib.Core.List.{List, [], _∷_}
 use native.Mathlib.Omega.{arith}
-use lib.Dec.{T, eqb, ltb}
+use lib.Dec.{T, ltb}
 use lib.Ieee.{ofBits, isNan, binary32}
 use lib.Ieee.Bits.{toBits-ofBits}
 use lib.IntN.{pos, negsuc}
-use lib.ListN.{getD}
-use borrow.Author.Tests.{ltb-true, ltb-false}
 use Rattle.octets.specs.le.Le.{leOf}
-use Rattle.answers.specs.Answer.{Accepted, Refusal, number}
+use Rattle.answers.specs.Answer.{Accepted, number}
 use Rattle.vecseg.specs.Component.{signedOf, componentOf}
 use Rattle.vecseg.specs.declared.Component.{Component}
 use Rattle.vecseg.specs.declared.Component.the-variants.{Float, Signed, Unsigned}

@@ -1,6 +1,5 @@
 -- The lister's worked example, line by line: an empty file with one META body of 0 bytes appended. And the words that it does not show.
 -- Assumes nothing.
-use Prim.Native.Nat.{ℕ}
 use mathlib.Core.Path.{_≡_, refl}
 use mathlib.Core.Bool.{true, false}
 use Rattle.octets.specs.text.Text.{ascii, digitsIn, decimal}

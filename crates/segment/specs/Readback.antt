@@ -16,8 +16,7 @@ use Rattle.octets.specs.le.Le.{leBytes}
 use Rattle.octets.specs.le.Laws.{leOf-leBytes}
 use Rattle.segment.specs.chain.Laws.{extend, Exact, done, more}
 use Rattle.segment.specs.chain.Framed.{framed-whole}
-use Rattle.segment.specs.Header.{all, State, reader, read, linkAt, linkIn, sizeAt, size, sound, headSound}
-use Rattle.segment.specs.Header.{typeHeld, flagsHeld, contentHash, whole, lengthIn, idIn, kindIn, flagsIn, timestampIn, hashIn}
+use Rattle.segment.specs.Header.{all, State, reader, read, linkAt, linkIn, sizeAt, size, sound, headSound, typeHeld, flagsHeld, contentHash, whole, lengthIn, idIn, kindIn, flagsIn, timestampIn, hashIn}
 use Rattle.segment.specs.Written.{headerOf, header, segment, linkOf}
 use Rattle.segment.specs.WrittenLaws.{header-length, segment-length}
 use Rattle.segment.specs.Laws.{segment-format}

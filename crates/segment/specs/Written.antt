@@ -1,9 +1,9 @@
 -- What is written for a segment: the header, the payload, zeros to a multiple of 64; and the link that it is.
 -- Assumes nothing.
 use mathlib.Core.List.{List, [], _∷_, _++_}
-use Prim.Native.Nat.{ℕ, _-_}
+use Prim.Native.Nat.{ℕ}
 use lib.ListN.{length, replicate}
-use Rattle.octets.specs.Round.{round64, padding}
+use Rattle.octets.specs.Round.{padding}
 use Rattle.octets.specs.le.Le.{leBytes}
 use Rattle.segment.specs.Header.{magic, contentHash, Link}
 

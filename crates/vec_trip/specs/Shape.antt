@@ -9,12 +9,11 @@ use lib.Dec.{lit<}
 use lib.ListN.{length, take, drop, length-append}
 use lib.Seq.{take-at, drop-at}
 use borrow.Author.Tests.{le-leb}
-use Rattle.octets.specs.Round.{round64}
+use Rattle.octets.specs.Round.{round64, padding}
 use Rattle.octets.specs.ZeroLaws.{zeros-all}
 use Rattle.octets.specs.le.Le.{leOf, leBytes}
 use Rattle.octets.specs.le.Laws.{leOf-leBytes}
 use Rattle.vecseg.specs.Payload.{Line, lineOf, blockCount, filled}
-use Rattle.octets.specs.Round.{padding}
 use Rattle.vecseg.specs.Writer.{directory}
 use Rattle.vecseg.specs.Laid.{length-directory, length-front}
 

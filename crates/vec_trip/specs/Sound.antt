@@ -8,7 +8,7 @@ use native.Mathlib.Omega.{arith}
 use lib.ListN.{length, take, drop, replicate, length-append, length-replicate}
 use lib.Seq.{take-at, drop-at, take-all}
 use borrow.Author.Tests.{le-leb, lt-ltb, eq-eqb}
-use Rattle.octets.specs.Round.{round64}
+use Rattle.octets.specs.Round.{round64, padding}
 use Rattle.octets.specs.RoundLaws.{round64-ge}
 use Rattle.octets.specs.Zero.{allZero}
 use Rattle.octets.specs.ZeroLaws.{zeros-all}
@@ -22,7 +22,6 @@ use Rattle.idmap.specs.Accepted.{good}
 use Rattle.idmap.specs.Trip.{Words, read-back}
 use Rattle.vecseg.specs.Payload.{Line, lineOf, width, lineBad, firstOf, linesBad, columnsLength, filled, SoundBlock, blockEnd, blockMap, blockOf, blocksBad, blockCount, bodyBad, checkOf}
 use Rattle.vecseg.specs.Writer.{vecBad, vecBytes, blockBytes}
-use Rattle.octets.specs.Round.{padding}
 use Rattle.vecseg.specs.WriterLaws.{WriterAccepts, accepted}
 use Rattle.vecseg.specs.Laid.{length-block, length-payload}
 use Rattle.vec_trip.specs.MapBytes.{map-bytes}

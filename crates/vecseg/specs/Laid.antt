@@ -10,14 +10,13 @@ use borrow.Rule.Slice.PartMut.{putMid}
 use Rattle.octets.specs.Over.{over}
 use Rattle.octets.specs.OverLaws.{over-then, over-at, length-over}
 use Rattle.octets.specs.Parts.{back}
-use Rattle.octets.specs.Round.{round64}
+use Rattle.octets.specs.Round.{round64, padding}
 use Rattle.octets.specs.RoundLaws.{round64-ge}
 use Rattle.octets.specs.le.Le.{leBytes}
 use Rattle.octets.specs.le.Laws.{length-leBytes}
 use Rattle.crc32c.specs.Crc.{crcOf}
 use Rattle.idmap.specs.Encode.{mapBytes}
 use Rattle.vecseg.specs.Writer.{vecBytes, blockBytes, directory}
-use Rattle.octets.specs.Round.{padding}
 
 -- ---- lengths
 

@@ -4,7 +4,7 @@ use Prim.Native.Nat.{ℕ, _+_}
 use mathlib.Core.Bool.{Bool, true, cond, _&&_}
 use mathlib.Core.List.{List, [], _∷_}
 use lib.Dec.{eqb, leb}
-use lib.ListN.{length, take, drop, getD}
+use lib.ListN.{length, take, drop}
 use Rattle.octets.specs.Zero.{sameBytes}
 use Rattle.answers.specs.limits.Limits.{maxEntries}
 use Rattle.segment.specs.Step.{wholeAt}

@@ -1,11 +1,11 @@
 -- The test by the file alone is the definition, for a link of the chain and the places of those before it.
 -- Assumes nothing.
-use Prim.Native.Nat.{ℕ, _+_}
+use Prim.Native.Nat.{ℕ}
 use mathlib.Core.Path.{_≡_, refl, sym, ap, subst, _∙_}
 use mathlib.Core.Bool.{Bool, _&&_}
 use mathlib.Core.Option.{some}
 use mathlib.Core.List.{List, [], _∷_}
-use lib.ListN.{length, take, drop, getD, length-map}
+use lib.ListN.{length, take, drop, length-map}
 use lib.Seq.{drop-drop, getD-drop}
 use Rattle.octets.specs.le.Le.{Bytes}
 use Rattle.segment.specs.chain.Chain.{All}

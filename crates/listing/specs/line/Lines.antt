@@ -1,6 +1,6 @@
 -- The lister's text, line by line.
 -- Assumes nothing.
-use Prim.Native.Nat.{ℕ, suc, _+_}
+use Prim.Native.Nat.{ℕ, suc}
 use mathlib.Core.Path.{_≡_, ap, subst, _∙_}
 use mathlib.Core.Bool.{Bool, true, false}
 use mathlib.Core.List.{List, [], _∷_, _++_, append-nil, append-assoc}
@@ -8,7 +8,6 @@ use native.Mathlib.Omega.{arith}
 use lib.ListN.{length, drop, getD}
 use lib.Seq.{getD-drop}
 use borrow.Author.Tests.{eq-eqb, ne-eqb}
-use Rattle.octets.specs.le.Le.{leAt}
 use Rattle.octets.specs.text.Text.{ascii}
 use Rattle.octets.specs.text.Written.{Written, then}
 use Rattle.segment.specs.Header.{Link, idAt, kindAt, lengthAt}

@@ -10,18 +10,20 @@ use lib.ListN.{length, take}
 use borrow.Author.Tests.{le-leb, lt-leb}
 use Rattle.octets.specs.Over.{over}
 use Rattle.octets.specs.OverLaws.{over-at}
-use Rattle.octets.specs.le.Le.{Bytes, leAt}
+use Rattle.octets.specs.le.Le.{Bytes}
 use Rattle.answers.specs.Write.{writeAnswer, writeBuffer}
 use Rattle.answers.specs.WriteLaws.{write-short, write-done}
 use Rattle.answers.specs.declared.Wrote.the-variants.{Length, Refused}
-use Rattle.answers.specs.limits.Limits.{maxEntries}
+use Rattle.answers.specs.limits.Limits.{maxFile, maxEntries}
 use Rattle.octets.specs.text.Text.{ascii, decimal}
 use Rattle.octets.specs.text.Written.{Written, same-room, then}
 use Rattle.segment.specs.index.Offsets.{most}
 use Rattle.manifest.specs.Opening.{opened, tried, openedCase, foundCase}
 use Rattle.manifest.specs.OpeningLaws.{at-within}
 use Rattle.manifest.specs.declared.Opened.the-variants as ops
-use Rattle.opening.specs.Indexed.{ManifestAt, Indexed, opened-at, opened-end, opened-none, opened-refused, manifest-numbered, manifest-part, manifest-room}
+use Rattle.opening.specs.Indexed.{ManifestAt, Indexed, opened-at, opened-end, manifest-numbered, manifest-part, manifest-room}
+use Rattle.opening.specs.FileManifest.{manifestOf, refused-alike}
+use Rattle.opening.specs.declared.FileManifest.the-variants.{Refused as FileRefused}
 use Rattle.reading.specs.Listing.{maxListed, heading, refusedLine, endLine, listFound, listWith, listText}
 use Rattle.listing.specs.line.Lines.{textLineAt, line-at}
 use Rattle.listing.specs.entries.Entries.{entryLines}
@@ -79,15 +81,13 @@ module _ (f : List ℕ) where
   unfolding listText listWith
   list-within h = rw (le-leb (length f) maxListed h)
 
-  pub list-none : (t : ℕ) → length f ≤ maxListed → openedCase f ≡ ops.NoManifest t → listText f ≡ refusedLine 2
+  -- a file without a manifest; none above opening's own limit is within the lister's
+  pub list-refused : (n : ℕ) → length f ≤ maxListed → manifestOf (openedCase f) ≡ FileRefused n → listText f ≡ refusedLine n
   unfolding listFound
-  list-none t h e = list-within h ∙ ap (listFound (tried f (opened f))) (opened-none f t e .1)
-
-  -- opening refuses no file within the lister's limit
-  pub list-refused : (n : ℕ) → length f ≤ maxListed → openedCase f ≡ ops.Refused n → ⊥
   list-refused n h e =
-      let r = opened-refused f n e .1 in
-      omega arith
+      let w : length f ≤ maxFile = omega arith in
+      let t = tried f (opened f) in
+      list-within h ∙ sym (at-within (refusedLine 1) (listFound t) f w) ∙ sym (refused-alike refusedLine (listFound t) f n refl e)
 
   -- what is written is the text: of a file that opens, and of a refusal
   pub found-written : {t₀ t : List ℕ} {end : ℕ} → length f ≤ maxListed → Written t₀ t 0 (listFound (tried f (opened f)) (opened f)) end → Written t₀ t 0 (listText f) end

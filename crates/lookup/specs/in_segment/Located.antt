@@ -1,6 +1,6 @@
 -- Where the vector with an id stands, by cases; the look into one segment, by the file's bytes alone; and where the search through the directory stands.
 -- Assumes nothing.
-use Prim.Native.Nat.{ℕ, suc, _+_, _-_, _*_, _≤_, _<_}
+use Prim.Native.Nat.{ℕ, suc, _+_, _-_, _≤_, _<_}
 use mathlib.Core.Path.{_≡_, refl, sym, ap, subst, _∙_}
 use mathlib.Core.Bool.{Bool, true, false, cond}
 use mathlib.Core.Option.{Option, none, some, Option·some-injective}
@@ -9,15 +9,15 @@ use native.Mathlib.Omega.{arith}
 use lib.Dec.{eqb}
 use lib.ListN.{length, take, drop, getD}
 use borrow.Author.Tests.{ne-eqb}
-use Rattle.octets.specs.le.Le.{leAt}
-use Rattle.answers.specs.limits.Limits.{maxFile}
+use Rattle.opening.specs.FileManifest.{manifestOf, refused-alike}
+use Rattle.opening.specs.declared.FileManifest.the-variants.{Refused as FileRefused}
 use Rattle.segment.specs.chain.Chain.{Found}
 use Rattle.segment.specs.Header.{Link, whole, kindAt, lengthAt}
 use Rattle.segment.specs.Step.{wholeAt}
 use Rattle.segment.specs.index.Offsets.{linkNo}
 use Rattle.segment.specs.index.Numbered.{Numbered}
-use Rattle.manifest.specs.Opening.{opened, states}
-use Rattle.manifest.specs.OpeningLaws.{at-long, at-within}
+use Rattle.manifest.specs.Opening.{opened, states, openedCase}
+use Rattle.manifest.specs.OpeningLaws.{at-within}
 use Rattle.opening.specs.Indexed.{ManifestAt, EntryAt}
 use Rattle.vecseg.specs.Payload.{vecKind, checkOf}
 use Rattle.vecseg.specs.Find.{Place, findIn}
@@ -205,10 +205,6 @@ module _ (f : List ℕ) (id offset count : ℕ) (m : ManifestAt f offset count) 
 
 -- ---- what opening refuses
 
-pub located-long : (f : List ℕ) (id n : ℕ) → n ≡ 1 → maxFile < length f → Refused n ≡ locatedOf (hitIn f id)
-unfolding hitIn locatedOf
-located-long f id n e h = ap Refused e ∙ ap locatedOf (sym (at-long (Bad 1) (hitFound id) f h))
-
-pub located-none : (f : List ℕ) (id : ℕ) → length f ≤ maxFile → opened f ≡ none → Refused 2 ≡ locatedOf (hitIn f id)
+pub located-refused : (f : List ℕ) (id n : ℕ) → manifestOf (openedCase f) ≡ FileRefused n → Refused n ≡ locatedOf (hitIn f id)
 unfolding hitIn hitFound locatedOf
-located-none f id h e = ap locatedOf (sym (at-within (Bad 1) (hitFound id) f h ∙ ap (hitFound id) e))
+located-refused f id n e = ap locatedOf (refused-alike Bad (hitFound id) f n refl e)

@@ -1,6 +1,6 @@
 -- Where the search for a segment's id stands, and what it has found.
 -- Assumes nothing.
-use Prim.Native.Nat.{ℕ, suc, _+_, _*_, _≤_, _<_}
+use Prim.Native.Nat.{ℕ, suc, _+_, _≤_, _<_}
 use mathlib.Core.Path.{_≡_, refl, sym, ap, subst, _∙_}
 use mathlib.Core.Bool.{true, false, cond}
 use mathlib.Core.Option.{none, some, Option·some-injective}
@@ -8,14 +8,14 @@ use mathlib.Core.List.{List}
 use native.Mathlib.Omega.{arith}
 use native.Mathlib.Numerals.{add-one}
 use lib.ListN.{length, drop, getD}
-use Rattle.octets.specs.le.Le.{leAt}
-use Rattle.answers.specs.limits.Limits.{maxFile}
+use Rattle.opening.specs.FileManifest.{manifestOf, refused-alike}
+use Rattle.opening.specs.declared.FileManifest.the-variants.{Refused as FileRefused}
 use Rattle.segment.specs.chain.Chain.{Found}
 use Rattle.segment.specs.Header.{Link, whole, noLink, idAt, lengthAt}
 use Rattle.segment.specs.Step.{wholeAt}
 use Rattle.segment.specs.index.Offsets.{linkNo}
-use Rattle.manifest.specs.Opening.{opened, states}
-use Rattle.manifest.specs.OpeningLaws.{at-long, at-within}
+use Rattle.manifest.specs.Opening.{opened, states, openedCase}
+use Rattle.manifest.specs.OpeningLaws.{at-within}
 use Rattle.opening.specs.Indexed.{ManifestAt, EntryAt}
 use Rattle.reading.specs.Live.{liveOf, live, withId}
 use Rattle.reading.specs.LiveLaws.{with-retired, with-other, with-here, with-none}
@@ -94,10 +94,6 @@ module _ (f : List ℕ) (id offset count : ℕ) (m : ManifestAt f offset count) 
 
 -- ---- what opening refuses
 
-pub place-long : (f : List ℕ) (id n : ℕ) → n ≡ 1 → maxFile < length f → Refused n ≡ placeOf (partIn f id)
-unfolding partIn placeOf
-place-long f id n e h = ap Refused e ∙ ap placeOf (sym (at-long (NotHanded 1) (partFound id) f h))
-
-pub place-none : (f : List ℕ) (id : ℕ) → length f ≤ maxFile → opened f ≡ none → Refused 2 ≡ placeOf (partIn f id)
+pub place-refused : (f : List ℕ) (id n : ℕ) → manifestOf (openedCase f) ≡ FileRefused n → Refused n ≡ placeOf (partIn f id)
 unfolding partIn partFound placeOf
-place-none f id h e = ap placeOf (sym (at-within (NotHanded 1) (partFound id) f h ∙ ap (partFound id) e))
+place-refused f id n e = ap placeOf (refused-alike NotHanded (partFound id) f n refl e)

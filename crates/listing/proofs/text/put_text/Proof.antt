@@ -2,8 +2,9 @@
 -- Assumes nothing.
 use mathlib.Core.Path.{refl, sym, _∙_}
 use native.Mathlib.Omega.{arith}
+use Rattle.opening.specs.FileManifest.{manifest-at}
 use Rattle.octets.specs.text.Text.{ascii}
-use Rattle.listing.specs.text.Whole.{list-long, list-none, list-refused, found-written, refused-written}
+use Rattle.listing.specs.text.Whole.{list-long, list-refused, found-written, refused-written}
 use borrow.Author.Needs.{needs}
 use Rattle.listing.proofs.text.put_text.Statement.{statement}
 use Rattle.listing.proofs.text.put_text.Tie as tie
@@ -19,37 +20,28 @@ put-list-requires : tie.Need-put-list-requires
 put-list-requires c κs =
     let f2 = c .before .before .before in
     let ow = f2 .before .before .before in
-    ((omega arith, omega arith), (ow .open-with .ensures .1 (omega arith), (_, sym (ow .open-with .ensures .0) ∙ f2 .found2 .given .1)))
+    ((omega arith, omega arith), (ow .file-manifest .ensures .1 (omega arith), manifest-at _ _ _ _ _ (sym (ow .file-manifest .ensures .0) ∙ f2 .found2 .given .1)))
 
 same-length-2 : tie.Need-same-length-2
 same-length-2 c = c .before .before .put-number2 .kept .0
 
 returns-2 : tie.Need-returns-2
+unfolding ascii
 returns-2 c =
     let f = c .before .before .before .before .before .before .before in
-    absurd (list-refused _ _ (omega arith) (sym (f .before .before .before .open-with .ensures .0) ∙ f .found .given .1))
+    refused-written _ _ (list-refused _ _ (omega arith) (sym (f .before .before .before .file-manifest .ensures .0) ∙ f .found .given .1))
+    (c .before .before .put-number2 .ensures .0)
 
 same-length-3 : tie.Need-same-length-3
-same-length-3 c = c .before .before .put-number3 .kept .0
+same-length-3 c = c .before .before .put-list .kept .0
 
 returns-3 : tie.Need-returns-3
-unfolding ascii
-returns-3 c =
-    let et = c .before .before .before .before .before .before in
-    refused-written _ 2 (list-none _ _ (omega arith) (sym (et .before .before .before .open-with .ensures .0)
-    ∙ et .enum-told .given .1)) (c .before .before .put-number3 .ensures .0)
-
-same-length-4 : tie.Need-same-length-4
-same-length-4 c = c .before .before .put-list .kept .0
-
-returns-4 : tie.Need-returns-4
-returns-4 c = found-written _ (omega arith) (c .before .before .put-list .ensures)
+returns-3 c = found-written _ (omega arith) (c .before .before .put-list .ensures)
 
 pub put-text-spec : {M : Type 1} → statement M
 put-text-spec =
     tie.close
     (tie.spec
     (λ c. refl) (λ c. refl) (λ c κs. omega arith) same-length returns (search needs) (search needs)
-    (search needs) (λ c. refl) (λ c. omega arith) (λ c. refl) (λ c κs. omega arith) (search needs) (λ c. refl)
-    (λ c. refl) (λ c κs. omega arith) (search needs) (search needs) put-list-requires same-length-2 returns-2
-    same-length-3 returns-3 same-length-4 returns-4)
+    (search needs) (λ c. refl) (λ c. omega arith) (λ c. refl) (λ c κs. omega arith) (search needs) (search needs)
+    put-list-requires same-length-2 returns-2 same-length-3 returns-3)

@@ -1,9 +1,10 @@
 -- `opening::directory::entry` meets its contract, by its ways out.
 -- Assumes nothing.
-use Rattle.opening.specs.Indexed.{ManifestAt, EntryAt, opened-refused, opened-none, opened-at, entry-at}
+use Rattle.opening.specs.Indexed.{ManifestAt, EntryAt, opened-at, entry-at}
+use Rattle.opening.specs.FileManifest.{manifest-at}
 use mathlib.Core.Path.{sym, _∙_}
 use native.Mathlib.Omega.{arith}
-use Rattle.opening.specs.directory.Entry.{entry-long, entry-none}
+use Rattle.opening.specs.directory.Entry.{entry-refused}
 use Rattle.opening.specs.directory.EntryLaws.{entry-past, entry-is}
 use borrow.Author.Needs.{needs}
 use Rattle.opening.proofs.directory.entry.Statement.{statement}
@@ -11,22 +12,24 @@ use Rattle.opening.proofs.directory.entry.Tie as tie
 
 -- Where the file's manifest is found, and where the index is one of its entries'.
 module _ (f : tie.After-found2) where
-  abbrev ow : tie.After-open-with
+  abbrev ow : tie.After-file-manifest
   ow = f .before .before .before
 
   abbrev s : tie.Start
   s = ow .before .before .before
 
-  abbrev found : ManifestAt (s .args .file .now) (f .found2 .given .0 .0) (f .found2 .given .0 .1 .1 .1 .0)
-  found = opened-at _ _ _ _ _ _ (sym (ow .open-with .ensures .0) ∙ f .found2 .given .1)
+  abbrev found : ManifestAt (s .args .file .now) (f .found2 .given .0 .0) (f .found2 .given .0 .1 .1 .0)
+  found =
+      let w = manifest-at _ _ _ _ _ (sym (ow .file-manifest .ensures .0) ∙ f .found2 .given .1) in
+      opened-at _ _ _ (w .0) _ _ (w .1)
 
 module _ (e : tie.Else1) where
   abbrev f : tie.After-found2
   f = e .before .before
 
-  entry : EntryAt (s f .args .file .now) (ow f .open-with .last .1 .0) (found f .found) (f .found2 .given .0 .0) (s f .args .index)
+  entry : EntryAt (s f .args .file .now) (ow f .file-manifest .last .1 .0) (found f .found) (f .found2 .given .0 .0) (s f .args .index)
   entry =
-      entry-at _ _ _ _ (λ k. omega (arith, ow f .before .before .shared-slice-known .given k)) (ow f .open-with .ensures .1 (found f .within))
+      entry-at _ _ _ _ (λ k. omega (arith, ow f .before .before .shared-slice-known .given k)) (ow f .file-manifest .ensures .1 (found f .within))
       (omega arith) (found f) (s f .args .index) (omega arith)
 
 returns : tie.Need-returns
@@ -54,17 +57,10 @@ read-entry-requires : tie.Need-read-entry-requires
 read-entry-requires c κs = (omega (arith, entry c .numbered .room), entry c .state-room)
 
 returns-2 : tie.Need-returns-2
-returns-2 c =
-    let r = opened-refused _ _ (sym (c .before .before .before .before .open-with .ensures .0) ∙ c .before .found .given .1) in
-    entry-long _ _ _ (r .0) (r .1)
+returns-2 c = entry-refused _ _ _ (sym (c .before .before .before .before .file-manifest .ensures .0) ∙ c .before .found .given .1)
 
 returns-3 : tie.Need-returns-3
 returns-3 c =
-    let r = opened-none _ _ (sym (c .before .before .before .open-with .ensures .0) ∙ c .enum-told .given .1) in
-    entry-none _ _ (r .0) (r .1)
-
-returns-4 : tie.Need-returns-4
-returns-4 c =
     let e = c .before in
     entry-is _ _ _ (found (f e)) _ _ (omega arith) (entry e) _ (c .read-entry .ensures)
 
@@ -72,6 +68,6 @@ pub entry-spec : {M : Type 1} → statement M
 entry-spec =
     tie.close
     (tie.spec
-    (search needs) (search needs) (search needs) (search needs) (search needs) returns mul-read-entry
+    (search needs) (search needs) (search needs) (search needs) returns mul-read-entry
     array-read-read-entry add-read-entry mul-read-entry-2 add-read-entry-2 add-read-entry-3 read-entry-requires
-    returns-2 returns-3 returns-4)
+    returns-2 returns-3)
