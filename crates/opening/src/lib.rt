@@ -77,8 +77,8 @@ pub fn open_with(file: &[u8], offsets: &mut [u64]) -> Opened
     find_from_end(file, offsets, n)
 }
 
-// What a call that goes on from the directory learns of the file's manifest: its offset and end, the number of its entries
-// and the boundaries tried; or the number that the call refuses by.
+// What a call that goes on from the directory learns of the file's manifest: its offset and end, the number of its
+// entries and the boundaries tried; or the number that the call refuses by.
 pub enum FileManifest {
     At {
         offset: usize,
