@@ -20,7 +20,7 @@ use Rattle.opening.specs.Indexed.{ManifestAt}
 use Rattle.appending.specs.Retire.{retireHeld, retired}
 use Rattle.appending.specs.Append.{oldLinks, oldStates}
 use Rattle.appending.specs.Opens.{rising-front}
-use Rattle.append.specs.bodies.Laid.{payload-front}
+use Rattle.octets.specs.Parts.{laid-front}
 use Rattle.append.specs.retire.Marks.{retireHeldBy, retiredBy, Rises, held-same, retired-same, rises-links}
 use Rattle.append.specs.Entries.{entryIdsAt, kindsAt, ids-lying, kinds-lying}
 
@@ -53,10 +53,10 @@ module _ (f : List ℕ) (manifest count : ℕ) (m : ManifestAt f manifest count)
     module _ (ids₀ ids ks₀ ks ss₀ ss part : List ℕ) (i : ids ≡ over ids₀ 0 (entryIdsAt f os)) (k : ks ≡ over ks₀ 0 (kindsAt f os))
         (s : ss ≡ over ss₀ 0 (statesIn count (drop 8 part))) (p : part ≡ m .found .link .payload) where
       ids-front : take count ids ≡ map (λ l. l .id) b
-      ids-front = payload-front ids ids₀ (entryIdsAt f os) count i (ap length ids-are ∙ length-map b (λ l. l .id) ∙ m .count-is) ∙ ids-are
+      ids-front = laid-front ids ids₀ (entryIdsAt f os) count i (ap length ids-are ∙ length-map b (λ l. l .id) ∙ m .count-is) ∙ ids-are
 
       kinds-front : take count ks ≡ map (λ l. l .kind) b
-      kinds-front = payload-front ks ks₀ (kindsAt f os) count k (ap length kinds-are ∙ length-map b (λ l. l .kind) ∙ m .count-is) ∙ kinds-are
+      kinds-front = laid-front ks ks₀ (kindsAt f os) count k (ap length kinds-are ∙ length-map b (λ l. l .kind) ∙ m .count-is) ∙ kinds-are
 
       said : statesIn count (drop 8 part) ≡ states (m .found)
       unfolding states
@@ -67,7 +67,7 @@ module _ (f : List ℕ) (manifest count : ℕ) (m : ManifestAt f manifest count)
       states-long = length-statesBy entrySize (length b) (drop 8 (m .found .link .payload)) ∙ m .count-is
 
       states-front : take count ss ≡ states (m .found)
-      states-front = payload-front ss ss₀ (statesIn count (drop 8 part)) count s (ap length said ∙ states-long) ∙ said
+      states-front = laid-front ss ss₀ (statesIn count (drop 8 part)) count s (ap length said ∙ states-long) ∙ said
 
       -- what the marking asks for
       pub lists-even : ((length (take count ks) ≡ length (take count ids)) × (length (take count ss) ≡ length (take count ids))) × Rises 0 (take count ids)

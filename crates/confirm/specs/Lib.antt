@@ -1,2 +1,3 @@
+pub mod as_segment
 pub mod entries
 pub mod states

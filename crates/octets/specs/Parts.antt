@@ -1,7 +1,7 @@
 -- Parts of a list: a part to the end, a part of a front, and a part of a buffer that was lent to a writer and has come back, said of the whole.
 -- Assumes nothing.
 use Prim.Native.Nat.{ℕ, zero, suc, _+_, _-_, _≤_}
-use mathlib.Core.Path.{_≡_, refl, _∙_}
+use mathlib.Core.Path.{_≡_, refl, sym, ap, _∙_}
 use mathlib.Core.List.{List, [], _∷_, _++_, append-nil}
 use native.Mathlib.Nat.{zero-add}
 use native.Mathlib.Omega.{arith}
@@ -9,7 +9,7 @@ use lib.ListN.{length, take, drop, replicate, length-drop, length-replicate, dro
 use lib.Seq.{take-all, take-take, drop-drop, length-take-le}
 use borrow.Rule.Slice.PartMut.{putMid}
 use Rattle.octets.specs.Over.{over}
-use Rattle.octets.specs.OverLaws.{length-over, over-next}
+use Rattle.octets.specs.OverLaws.{length-over, over-next, over-at}
 
 -- a part to the end
 pub tail-all : (s : List ℕ) (a : ℕ) → take (length s - a) (drop a s) ≡ drop a s
@@ -21,6 +21,10 @@ part-front zero k n x h = take-take k n x (omega arith)
 part-front (suc i) k zero x h = absurd (omega arith)
 part-front (suc i) k (suc n) [] h = refl
 part-front (suc i) k (suc n) (b ∷ x) h = part-front i k n x (omega arith)
+
+-- what was laid at the front of a list, by its length
+pub laid-front : (s s₀ xs : List ℕ) (n : ℕ) → s ≡ over s₀ 0 xs → length xs ≡ n → take n s ≡ xs
+laid-front s s₀ xs n e l = ap (λ (k : ℕ). take k s) (sym l) ∙ ap (take (length xs)) e ∙ over-at s₀ 0 xs (omega arith)
 
 -- a list at the front of the part from a place on is that list at that place of the whole
 pub over-part : (xs : List ℕ) (a : ℕ) (b : List ℕ) → a + length b ≤ length xs

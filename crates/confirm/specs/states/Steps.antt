@@ -11,7 +11,8 @@ use lib.Seq.{drop-cons, getD-drop, length-take-le}
 use lib.Dec.{eqb, leb}
 use borrow.Author.Tests.{ne-eqb, lt-leb, le-leb}
 use Rattle.octets.specs.Over.{over}
-use Rattle.octets.specs.OverLaws.{over-none, over-front, over-at}
+use Rattle.octets.specs.OverLaws.{over-none, over-front}
+use Rattle.octets.specs.Parts.{laid-front}
 use Rattle.octets.specs.Round.{round64}
 use Rattle.octets.specs.Zero.{sameBytes}
 use Rattle.octets.specs.ZeroLaws.{same-length}
@@ -136,18 +137,12 @@ module _ (f os : List ℕ) (at len id : ℕ) where
 
 -- the states that were read stand at the front of their array
 pub states-front : (s₀ s payload : List ℕ) (n : ℕ) → s ≡ over s₀ 0 (statesIn n (drop 8 payload)) → take n s ≡ statesIn n (drop 8 payload)
-states-front s₀ s payload n p =
-    ap (take n) p
-    ∙ ap (λ (k : ℕ). take k (over s₀ 0 (statesIn n (drop 8 payload)))) (sym (length-statesBy entrySize n (drop 8 payload)))
-    ∙ over-at s₀ 0 (statesIn n (drop 8 payload)) (omega arith)
+states-front s₀ s payload n p = laid-front s s₀ (statesIn n (drop 8 payload)) n p (length-statesBy entrySize n (drop 8 payload))
 
 -- and so does the payload that was written
 pub payload-front : (buf b f os ss : List ℕ) (at len id : ℕ) → Inside f os → len ≡ payloadLength (length os) → b ≡ over buf 0 (payloadAt f os ss at id)
     → take len b ≡ payloadAt f os ss at id
-payload-front buf b f os ss at len id t e p =
-    ap (take len) p
-    ∙ ap (λ (k : ℕ). take k (over buf 0 (payloadAt f os ss at id))) (e ∙ sym (length-payloadAt f os ss at id t))
-    ∙ over-at buf 0 (payloadAt f os ss at id) (omega arith)
+payload-front buf b f os ss at len id t e p = laid-front b buf (payloadAt f os ss at id) len p (length-payloadAt f os ss at id t ∙ sym e)
 
 -- ---- the payload as the function has it: a part of the file
 

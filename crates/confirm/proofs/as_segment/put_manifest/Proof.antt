@@ -1,17 +1,18 @@
--- `append::new_manifest::put_manifest` meets its contract.
+-- `confirm::as_segment::put_manifest` meets its contract.
 -- Assumes nothing.
 use Prim.Native.Nat.{_-_}
 use mathlib.Core.Path.{_≡_, sym, ap, _∙_}
 use native.Mathlib.Omega.{arith}
 use lib.ListN.{length, take, drop, length-take, length-drop}
 use lib.Seq.{length-take-le}
+use Rattle.octets.specs.Parts.{laid-front}
 use Rattle.octets.specs.Round.{round64}
 use Rattle.manifest.specs.Payload.{payloadLength}
 use Rattle.manifest.specs.At.{payloadAt, length-payloadAt}
-use Rattle.append.specs.bodies.Laid.{payload-most, payload-front, manifest-laid}
+use Rattle.confirm.specs.as_segment.Laid.{payload-most, manifest-laid}
 use borrow.Author.Needs.{needs}
-use Rattle.append.proofs.new_manifest.put_manifest.Statement.{statement}
-use Rattle.append.proofs.new_manifest.put_manifest.Tie as tie
+use Rattle.confirm.proofs.as_segment.put_manifest.Statement.{statement}
+use Rattle.confirm.proofs.as_segment.put_manifest.Tie as tie
 
 slice-aggregate-put-payload-2 : tie.Need-slice-aggregate-put-payload-2
 slice-aggregate-put-payload-2 c =
@@ -35,7 +36,7 @@ slice-aggregate-put-segment c =
     let s = pp .before .before .before .before .before .before in
     let lp = length-payloadAt (take (s .args .at) (s .args .buf .now)) (s .args .offsets .now)
     (s .args .states .now) (s .args .at) (s .args .id) (s .pre .1 .1) in
-    let f = payload-front (pp .put-payload .last .0) _ _ (pp .put-payload .result) (pp .put-payload .ensures .1)
+    let f = laid-front (pp .put-payload .last .0) _ _ (pp .put-payload .result) (pp .put-payload .ensures .1)
     (lp ∙ sym (pp .put-payload .ensures .0)) in
     pp .put-payload .ensures .0 ∙ sym lp ∙ sym (ap length f)
 
@@ -46,7 +47,7 @@ put-segment-requires c κs =
     let at = s .args .at in
     let buf = s .args .buf .now in
     let lp = length-payloadAt (take at buf) (s .args .offsets .now) (s .args .states .now) at (s .args .id) (s .pre .1 .1) in
-    let f = payload-front (pp .put-payload .last .0) _ _ (pp .put-payload .result) (pp .put-payload .ensures .1)
+    let f = laid-front (pp .put-payload .last .0) _ _ (pp .put-payload .result) (pp .put-payload .ensures .1)
     (lp ∙ sym (pp .put-payload .ensures .0)) in
     let r : round64 (length (take (pp .put-payload .result) (pp .put-payload .last .0))) ≡ round64
     (payloadLength (length (s .args .offsets .now))) = ap round64 (ap length f ∙ lp) in
@@ -59,7 +60,7 @@ returns c =
     let at = s .args .at in
     let offsets = s .args .offsets .now in
     let lp = length-payloadAt (take at (s .args .buf .now)) offsets (s .args .states .now) at (s .args .id) (s .pre .1 .1) in
-    let f = payload-front (pp .put-payload .last .0) _ _ (pp .put-payload .result) (pp .put-payload .ensures .1)
+    let f = laid-front (pp .put-payload .last .0) _ _ (pp .put-payload .result) (pp .put-payload .ensures .1)
     (lp ∙ sym (pp .put-payload .ensures .0)) in
     let r : round64 (length (payloadAt (take at (s .args .buf .now)) offsets (s .args .states .now) at
     (s .args .id))) ≡ round64 (payloadLength (length offsets)) = ap round64 lp in

@@ -1,0 +1,2 @@
+-- Getting room back: what compaction answers and writes, and what follows for those who read and append.
+pub mod Compact

@@ -1,0 +1,2 @@
+-- The steps of writing a manifest as a segment.
+pub mod Laid
