@@ -13,7 +13,7 @@ use Rattle.answers.specs.declared.Wrote.{Wrote}
 use Rattle.answers.specs.declared.Wrote.the-variants.{Length, Refused as NotWritten}
 use Rattle.segment.specs.chain.Chain.{Found}
 use Rattle.segment.specs.Header.{Link, size, whole}
-use Rattle.segment.specs.Written.{segment}
+use Rattle.segment.specs.Written.{segment, linkOf}
 use Rattle.manifest.specs.Payload.{manifestKind, manifestPayload}
 use Rattle.manifest.specs.Opening.{atOpened}
 use Rattle.reading.specs.Live.{live}
@@ -51,6 +51,13 @@ freshPayload r = manifestPayload (movedFrom 0 (copied r)) (replicate (length (co
 -- 'then one manifest .. with the old manifest's id, timestamp .., flags 0'
 unfoldable pub freshFile : Found Link → List ℕ
 freshFile r = segmentsOf (copied r) ++ segment manifestKind 0 (r .link .id) (r .link .timestamp) (freshPayload r)
+
+-- the manifest as a link, and what opening finds in the fresh file
+unfoldable pub freshManifest : Found Link → Link
+freshManifest r = linkOf (length (segmentsOf (copied r))) manifestKind 0 (r .link .id) (r .link .timestamp) (freshPayload r)
+
+abbrev pub freshFound : Found Link → Found Link
+freshFound r = record { before = movedFrom 0 (copied r); link = freshManifest r }
 
 -- ---- the answer
 

@@ -2,20 +2,22 @@
 -- they take.
 -- Assumes nothing.
 use Prim.Native.Nat.{ℕ, suc, _+_, _≤_}
-use mathlib.Core.Path.{_≡_, refl, ap, _∙_}
+use mathlib.Core.Path.{_≡_, refl, sym, ap, subst, _∙_}
 use mathlib.Core.Bool.{Bool, true, false, cond}
-use mathlib.Core.List.{List, [], _∷_, _++_}
+use mathlib.Core.Option.{some}
+use mathlib.Core.List.{List, [], _∷_, _++_, append-nil}
 use native.Mathlib.Omega.{arith}
 use lib.Dec.{eqb}
 use lib.ListN.{length, drop, getD, length-append}
-use Rattle.segment.specs.chain.Chain.{All, Found}
+use Rattle.segment.specs.chain.Chain.{All, Found, openOf}
+use Rattle.segment.specs.chain.Last.{LastIn, last-stands}
 use Rattle.segment.specs.chain.Laws.{sizes}
 use Rattle.segment.specs.Header.{Link, reader, size, whole}
-use Rattle.segment.specs.Chained.{Rising}
+use Rattle.segment.specs.Chained.{chain, Rising, chain-rising, rising-front}
 use Rattle.segment.specs.Written.{segment}
 use Rattle.segment.specs.WrittenLaws.{segment-length}
-use Rattle.manifest.specs.Payload.{manifestKind}
-use Rattle.manifest.specs.Opening.{states}
+use Rattle.manifest.specs.Payload.{manifestKind, confirmed}
+use Rattle.manifest.specs.Opening.{opened, states}
 use Rattle.reading.specs.Live.{liveOf, live}
 use Rattle.reading.specs.Placed.{all-live}
 use Rattle.compacting.specs.Compact.{withoutManifests, copied, segmentsOf, movedTo, movedFrom, damaged}
@@ -81,6 +83,15 @@ rising-without (l ∷ ls) zs least r = pick (eqb (l .kind) manifestKind) (rising
 pub rising-copied : (r : Found Link) (zs : List Link) → Rising 0 (r .before ++ zs) → Rising 0 (copied r ++ zs)
 unfolding copied live
 rising-copied r zs h = rising-without (live r) zs 0 (rising-live (r .before) zs (states r) 0 h)
+
+-- of a file that opens
+pub live-rising : (f : List ℕ) (r : Found Link) → opened f ≡ some r → Rising 0 (live r)
+unfolding live opened openOf
+live-rising f r e =
+    let s : LastIn confirmed (chain f) r = last-stands confirmed (chain f) r e in
+    let all : Rising 0 (r .before) = rising-front (r .before) (r .link ∷ s .rest) 0 (subst (Rising 0) (s .split) (chain-rising f)) in
+    subst (Rising 0) (append-nil (liveOf (r .before) (states r)))
+    (rising-live (r .before) [] (states r) 0 (subst (Rising 0) (sym (append-nil (r .before))) all))
 
 -- ---- they are no more, and take no more bytes
 

@@ -7,7 +7,7 @@ use mathlib.Core.Bool.{true}
 use mathlib.Core.Option.{some}
 use mathlib.Core.List.{List, [], _∷_, _++_, append-assoc}
 use native.Mathlib.Omega.{arith}
-use lib.ListN.{length, take, drop, replicate, length-append, length-replicate}
+use lib.ListN.{length, take, drop, replicate, length-append, length-drop, length-replicate}
 use Rattle.octets.specs.Round.{round64}
 use Rattle.octets.specs.RoundLaws.{round64-mono}
 use Rattle.octets.specs.ZeroLaws.{same-equal}
@@ -18,7 +18,7 @@ use Rattle.segment.specs.chain.Chain.{All, Found, openOf, lastConfirmed}
 use Rattle.segment.specs.chain.Laws.{all-map, all-both, Exact, done, afters, exact-append, exact-length, sizes, walk-all}
 use Rattle.segment.specs.chain.Last.{LastIn, last-stands, last-at-end}
 use Rattle.segment.specs.Header.{Link, State, start, reader, size, whole, contentHash}
-use Rattle.segment.specs.Laws.{segment-format, afters-at, flags-fit}
+use Rattle.segment.specs.Laws.{segment-format, afters-at, flags-fit, lies, size-least}
 use Rattle.segment.specs.Chained.{chain, link-place, Rising, chain-rising, rising-front}
 use Rattle.segment.specs.Written.{segment, linkOf}
 use Rattle.segment.specs.WrittenLaws.{segment-length}
@@ -31,7 +31,7 @@ use Rattle.manifest.specs.Made.{made-exact, made-confirmed}
 use Rattle.manifest.specs.Opening.{opened, states}
 use Rattle.manifest.specs.Lying.{Lying, chain-lying}
 use Rattle.reading.specs.Placed.{all-at}
-use Rattle.compacting.specs.Compact.{copied, segmentsOf, movedTo, movedFrom, freshPayload, freshFile, damaged}
+use Rattle.compacting.specs.Compact.{copied, segmentsOf, movedTo, movedFrom, freshPayload, freshFile, freshManifest, freshFound, damaged}
 use Rattle.compacting.specs.Copied.{all-copied, rising-copied, Within, copied-within, segments-length, moved-length, moved-sizes, all-moved, all-whole}
 
 -- ---- the chain of segments that lie in a file, written one behind the other
@@ -77,13 +77,6 @@ unfolding Rising movedFrom movedTo afters
 rising-end [] m at st r = r .0
 rising-end (l ∷ ls) m at st r = rising-end ls m (at + size l) (record { at = st .at + size (movedTo at l); least = l .id + 1 }) (r .1)
 
--- the manifest's link, and what opening finds
-unfoldable pub freshManifest : Found Link → Link
-freshManifest r = linkOf (length (segmentsOf (copied r))) manifestKind 0 (r .link .id) (r .link .timestamp) (freshPayload r)
-
-abbrev pub freshFound : Found Link → Found Link
-freshFound r = record { before = movedFrom 0 (copied r); link = freshManifest r }
-
 payload-small : (c : ℕ) → c ≤ maxEntries → payloadLength c < 2 ^ 64
 unfolding payloadLength recordBy round64
 payload-small c h = omega arith
@@ -107,6 +100,13 @@ module _ (f : List ℕ) (r : Found Link) (t : Bytes f) (e : opened f ≡ some r)
 
   link-lying : Lying f (r .link)
   link-lying = all-at (Lying f) (r .before) (r .link) [] kept-lying
+
+  -- the manifest's end lies in the file
+  pub link-inside : r .link .offset + size (r .link) ≤ length f
+  link-inside =
+      let y = lies (link-lying .state) (drop (r .link .offset) f) (r .link) (link-lying .reads) in
+      let least = size-least (r .link) in
+      omega (arith, y .fits, length-drop (r .link .offset) f)
 
   pub copied-lying : All (Lying f) (copied r)
   copied-lying = all-copied (Lying f) r (chain-lying f (r .before) (r .link ∷ stands .rest) (stands .split))

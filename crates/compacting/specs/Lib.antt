@@ -2,3 +2,6 @@
 pub mod Compact
 pub mod Copied
 pub mod Fresh
+pub mod Promise
+pub mod Same
+pub mod Theorem

@@ -99,13 +99,17 @@ order-in f r e = all-reverse (InFile f) (vectorsOf (live r)) (all-vectors (InFil
 
 -- ---- the answers
 
--- an answer that is not that of a file above the limit is made of what opening finds
-pub at-found : {A : Type 0} (one a : A) (g : Option (Found Link) → A) (f : List ℕ) → (one ≡ a → ⊥) → atOpened one g f ≡ a → g (opened f) ≡ a
-at-found one a g f n e = go (decLe (length f) maxFile)
+-- an answer that is not that of a file above the limit: the file is within it, and the answer is made of what opening finds
+pub at-inside : {A : Type 0} (one a : A) (g : Option (Found Link) → A) (f : List ℕ) → (one ≡ a → ⊥) → atOpened one g f ≡ a
+    → (length f ≤ maxFile) × (g (opened f) ≡ a)
+at-inside one a g f n e = go (decLe (length f) maxFile)
   where
-    go : Dec (length f ≤ maxFile) → g (opened f) ≡ a
-    go (yes h) = sym (at-within one g f h) ∙ e
+    go : Dec (length f ≤ maxFile) → (length f ≤ maxFile) × (g (opened f) ≡ a)
+    go (yes h) = (h, sym (at-within one g f h) ∙ e)
     go (no h) = absurd (n (sym (at-long one g f (lt-of-not-le h)) ∙ e))
+
+pub at-found : {A : Type 0} (one a : A) (g : Option (Found Link) → A) (f : List ℕ) → (one ≡ a → ⊥) → atOpened one g f ≡ a → g (opened f) ≡ a
+at-found one a g f n e = at-inside one a g f n e .1
 
 -- a part that is handed back is the file's at that place
 pub part-in : (f : List ℕ) (id start : ℕ) (bytes : List ℕ) → partIn f id ≡ Handed start bytes
