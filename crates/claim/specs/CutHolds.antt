@@ -21,6 +21,8 @@ use Rattle.manifest.specs.Directory.{entryIn, entryCase}
 use Rattle.manifest.specs.declared.DirectoryEntry.the-variants.{Refused as NotOpened}
 use Rattle.reading.specs.Answers.{NotHanded, partFound, partIn, Bad, hitFound, hitIn, vectorHit, bufferHit, vectorCase, vectorAfter, valueHit, valueIn}
 use Rattle.reading.specs.Listing.{maxListed, listWith}
+use Rattle.compacting.specs.Compact.{compactFound, compactCase, bufferFound, compactBuffer}
+use Rattle.compacting.specs.declared.Compacted.the-variants.{Refused as NotCompacted}
 use Rattle.batch.specs.Form.{bodiesOf}
 use Rattle.appending.specs.Append.{startOf, newEnd, newBytes, checked, isNone, appendChecks, answerOn, appendAnswer, Appends, Holds}
 use Rattle.appending.specs.Opens.{kept, cutFile, new-length}
@@ -42,7 +44,7 @@ listed-alike f g h k t e = rw (le-leb (length f) maxListed h, le-leb (length g) 
 
 -- all of them are functions of what opening finds
 pub alike : (f g : List ℕ) → length f ≤ maxFile → length g ≤ maxFile → opened f ≡ opened g → Alike f g
-unfolding entryCase partIn vectorCase vectorAfter valueIn hitIn
+unfolding entryCase partIn vectorCase vectorAfter valueIn hitIn compactCase compactBuffer
 alike f g h k e =
     let hit : (id : ℕ) → hitIn f id ≡ hitIn g id = λ id. answers-alike (Bad 1) (hitFound id) f g h k e in
     record {
@@ -55,6 +57,8 @@ alike f g h k e =
       vector = λ id buf. ap (vectorHit buf) (hit id);
       buffer = λ id buf. ap (bufferHit buf) (hit id);
       component = λ id i. ap (valueHit i) (hit id);
+      compaction = λ buf. answers-alike (NotCompacted 1) (compactFound buf) f g h k e;
+      written = λ buf. answers-alike buf (bufferFound buf) f g h k e;
       listing = λ p q t. listed-alike f g p q t e;
     }
 

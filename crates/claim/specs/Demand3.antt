@@ -19,6 +19,7 @@ use Rattle.manifest.specs.declared.DirectoryEntry.the-variants.{NoEntry}
 use Rattle.reading.specs.Answers.{partIn, vectorCase, vectorAfter, valueIn}
 use Rattle.reading.specs.Part.{InFile}
 use Rattle.reading.specs.Listing.{maxListed, listWith}
+use Rattle.compacting.specs.Compact.{compactCase, compactBuffer}
 use Rattle.appending.specs.Append.{startOf, appendAnswer, Appends, Holds}
 use Rattle.claim.specs.Model.{Entry, linksOf, statesOf, Model, emptyModel, modelOf, Fed, feedAll}
 
@@ -120,6 +121,8 @@ pub record Alike (f g : List ℕ) : Type 0 where
   pub vector : (id : ℕ) (buf : List ℕ) → vectorCase f id buf ≡ vectorCase g id buf
   pub buffer : (id : ℕ) (buf : List ℕ) → vectorAfter f id buf ≡ vectorAfter g id buf
   pub component : (id i : ℕ) → valueIn f id i ≡ valueIn g id i
+  pub compaction : (buf : List ℕ) → compactCase f buf ≡ compactCase g buf
+  pub written : (buf : List ℕ) → compactBuffer f buf ≡ compactBuffer g buf
   -- the lister's text with any number in the place of the boundaries tried; its own limit is 'no reading answer of demand 3'
   pub listing : length f ≤ maxListed → length g ≤ maxListed → (t : ℕ) → listWith t f ≡ listWith t g
 

@@ -6,3 +6,5 @@ pub mod Reports
 pub mod ClaimHolds
 pub mod CutHolds
 pub mod Theorem
+pub mod Later
+pub mod LaterHolds

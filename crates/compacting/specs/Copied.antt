@@ -8,7 +8,7 @@ use mathlib.Core.Option.{some}
 use mathlib.Core.List.{List, [], _∷_, _++_, append-nil}
 use native.Mathlib.Omega.{arith}
 use lib.Dec.{eqb}
-use lib.ListN.{length, drop, getD, length-append}
+use lib.ListN.{length, drop, getD, replicate, length-append}
 use Rattle.segment.specs.chain.Chain.{All, Found, openOf}
 use Rattle.segment.specs.chain.Last.{LastIn, last-stands}
 use Rattle.segment.specs.chain.Laws.{sizes}
@@ -53,6 +53,12 @@ pub without-none : (ls : List Link) → All (λ l. eqb (l .kind) manifestKind �
 unfolding withoutManifests All
 without-none [] t = refl
 without-none (l ∷ ls) t = rw (t .0) (ap (λ (xs : List Link). l ∷ xs) (without-none ls (t .1)))
+
+-- where all are live, all are the live ones
+pub live-all : (ls : List Link) → liveOf ls (replicate (length ls) 0) ≡ ls
+unfolding liveOf
+live-all [] = refl
+live-all (l ∷ ls) = ap (λ (xs : List Link). l ∷ xs) (live-all ls)
 
 -- ---- ids rise through them still
 

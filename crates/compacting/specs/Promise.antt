@@ -4,7 +4,7 @@
 use Prim.Native.Nat.{ℕ, _+_, _-_, _/_, _≤_}
 use mathlib.Core.Path.{_≡_}
 use mathlib.Core.Option.{none, some}
-use mathlib.Core.List.{List, [], _∷_}
+use mathlib.Core.List.{List, [], _∷_, map}
 use lib.ListN.{length, take, drop, replicate}
 use Rattle.octets.specs.Over.{over}
 use Rattle.answers.specs.limits.Limits.{maxFile}
@@ -15,8 +15,12 @@ use Rattle.segment.specs.Written.{segment}
 use Rattle.manifest.specs.Opening.{opened, states, openAnswer}
 use Rattle.reading.specs.Live.{withId}
 use Rattle.reading.specs.Answers.{Part, Handed, NotHanded, partIn, vectorCase, vectorAfter, valueIn}
-use Rattle.compacting.specs.Compact.{copied, freshFound, compactCase, compactBuffer}
+use Rattle.compacting.specs.Compact.{copied, movedTo, freshFound, compactCase, compactBuffer}
 use Rattle.compacting.specs.declared.Compacted.the-variants.{At}
+
+-- segments alike but for their places
+abbrev pub unplaced : List Link → List Link
+unplaced ls = map (movedTo 0) ls
 
 -- 'length and bytes, not the place'
 unfoldable pub withoutPlace : Part → Part
@@ -39,6 +43,7 @@ pub record Compaction (f buf : List ℕ) (end id count : ℕ) : Type 0 where
   -- what opening the old file finds
   pub found : Found Link
   pub opens : opened f ≡ some found
+  pub in-limit : length f ≤ maxFile
   -- 'headers unchanged': each segment is written as it stands in the old file, header, payload and padding
   pub unchanged : All (λ l. segment (l .kind) (l .flags) (l .id) (l .timestamp) (l .payload) ≡ take (size l) (drop (l .offset) f)) (copied found)
   -- opening the written file finds the manifest with these segments before it, all live, and answers what compaction answered
@@ -46,6 +51,8 @@ pub record Compaction (f buf : List ℕ) (end id count : ℕ) : Type 0 where
   pub all-live : states (freshFound found) ≡ replicate count 0
   pub reports : openAnswer (writtenFile f buf end)
       ≡ Accepted (freshFound found .link .offset ∷ end ∷ id ∷ count ∷ (length (writtenFile f buf end) / 64 - freshFound found .link .offset / 64) ∷ [])
+  -- its live segments are the old file's but for their places and the manifests
+  pub alike : unplaced (copied found) ≡ unplaced (copied (freshFound found))
   pub answers : SameAnswers f (writtenFile f buf end) (copied found)
   -- 'Ids of type 0x05 now answer 3', as do those of segments that were retired
   pub others : (x : ℕ) → withId x (copied found) ≡ none → partIn (writtenFile f buf end) x ≡ NotHanded 3

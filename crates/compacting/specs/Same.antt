@@ -24,11 +24,7 @@ use Rattle.reading.specs.Placed.{all-with}
 use Rattle.reading.specs.Answers.{Handed, NotHanded, partOf, partFound, partIn, Hit, Held, Missing, Bad, hitOf, hitInSegment, orElse, searchIn, hitFound, hitIn, vectorHit, bufferHit, vectorCase, vectorAfter, valueHit, valueIn}
 use Rattle.compacting.specs.Compact.{withoutManifests, copied, movedTo, movedFrom}
 use Rattle.compacting.specs.Copied.{live-rising}
-use Rattle.compacting.specs.Promise.{withoutPlace, SameAnswers}
-
--- links without their places
-abbrev pub unplaced : List Link → List Link
-unplaced ls = map (movedTo 0) ls
+use Rattle.compacting.specs.Promise.{unplaced, withoutPlace, SameAnswers}
 
 pub unplaced-moved : (at : ℕ) (ls : List Link) → unplaced (movedFrom at ls) ≡ unplaced ls
 unfolding movedFrom movedTo

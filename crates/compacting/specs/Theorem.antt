@@ -31,19 +31,14 @@ use Rattle.reading.specs.Live.{liveOf, live, withId}
 use Rattle.reading.specs.Placed.{at-inside}
 use Rattle.reading.specs.Answers.{NotHanded, partOf, partFound, partIn}
 use Rattle.compacting.specs.Compact.{withoutManifests, copied, segmentsOf, movedTo, movedFrom, freshPayload, freshFile, freshManifest, freshFound, damaged, compactedBy, compactFound, compactCase, bufferFound, compactBuffer}
-use Rattle.compacting.specs.Copied.{none-manifest, without-none, moved-length, all-moved, all-whole, whole-sound}
+use Rattle.compacting.specs.Copied.{live-all, none-manifest, without-none, moved-length, all-moved, all-whole, whole-sound}
 use Rattle.compacting.specs.Fresh.{link-inside, never-later, payload-long, fresh-length, fresh-states, unchanged, fresh-opens}
-use Rattle.compacting.specs.Same.{unplaced, unplaced-moved, same-answers, with-moved}
-use Rattle.compacting.specs.Promise.{Compaction, writtenFile}
+use Rattle.compacting.specs.Same.{unplaced-moved, same-answers, with-moved}
+use Rattle.compacting.specs.Promise.{unplaced, Compaction, writtenFile}
 use Rattle.compacting.specs.declared.Compacted.{Compacted}
 use Rattle.compacting.specs.declared.Compacted.the-variants.{At, Refused}
 
 -- ---- the links of the fresh file
-
-live-all : (ls : List Link) → liveOf ls (replicate (length ls) 0) ≡ ls
-unfolding liveOf
-live-all [] = refl
-live-all (l ∷ ls) = ap (λ (xs : List Link). l ∷ xs) (live-all ls)
 
 moved-again : (at b : ℕ) (ls : List Link) → movedFrom at (movedFrom b ls) ≡ movedFrom at ls
 unfolding movedFrom movedTo size
@@ -170,18 +165,21 @@ module _ (f buf : List ℕ) (end id count : ℕ) (t : Bytes f) (in-limit : lengt
       ∙ same-numbers _ _ _ end id count (ap length (same-file f r t e) ∙ sym (a .end-is)) (sym (a .id-is)) (same-count f r t e ∙ sym (a .count-is)),
       at-within buf′ (bufferFound buf′) g within ∙ ap (bufferFound buf′) reopens ∙ z .1 ∙ ap (over buf′ 0) (same-file f r t e ∙ sym file-is))
 
+  alike : unplaced (copied r) ≡ unplaced (copied (freshFound r))
+  alike = sym (ap unplaced (copied-fresh f r t e) ∙ unplaced-moved 0 (copied r))
+
   compaction : Compaction f buf end id count
   compaction =
       record {
         found = r;
         opens = e;
+        in-limit = in-limit;
         unchanged = unchanged f r t e (a .sound);
         reopens = reopens;
         all-live = fresh-states f r t e ∙ ap (λ (n : ℕ). replicate n 0) (sym (a .count-is));
         reports = reports;
-        answers =
-            same-answers f g r (freshFound r) in-limit within e reopens
-            (sym (ap unplaced (copied-fresh f r t e) ∙ unplaced-moved 0 (copied r)));
+        alike = alike;
+        answers = same-answers f g r (freshFound r) in-limit within e reopens alike;
         others = others;
         ends = ends;
         never-later = not-later;
