@@ -31,7 +31,7 @@ use Rattle.appending.specs.States.{retired-length}
 use Rattle.appending.specs.Written.{BodyHeld, bodies-held, bodyLinks-length}
 use Rattle.appending.specs.Opens.{newManifest, fileWith}
 use Rattle.appending.specs.Buffer.{open-with, states-with, with-length, AppendedBy, appended, file-is}
-use Rattle.compacting.specs.Compact.{withoutManifests, copied, movedTo, freshFound, freshManifest, compactCase}
+use Rattle.compacting.specs.Compact.{isManifest, withoutManifests, copied, movedTo, freshFound, freshManifest, compactCase}
 use Rattle.compacting.specs.Promise.{unplaced, SameAnswers, Compaction, writtenFile}
 use Rattle.compacting.specs.Copied.{live-all, without-none}
 use Rattle.compacting.specs.Same.{same-answers}
@@ -63,9 +63,9 @@ live-retired (l ∷ ls) ss ids = rw (live-retired ls (drop 1 ss) ids) (pick (mem
 stay-without : (ids : List ℕ) (ls : List Link) → withoutManifests (stay ids ls) ≡ stay ids (withoutManifests ls)
 unfolding withoutManifests stay
 stay-without ids [] = refl
-stay-without ids (l ∷ ls) = pick (member (l .id) ids) refl (eqb (l .kind) manifestKind) refl (stay-without ids ls)
+stay-without ids (l ∷ ls) = pick (member (l .id) ids) refl (isManifest l) refl (stay-without ids ls)
   where
-    pick : (m : Bool) → member (l .id) ids ≡ m → (b : Bool) → eqb (l .kind) manifestKind ≡ b → withoutManifests (stay ids ls) ≡ stay ids (withoutManifests ls)
+    pick : (m : Bool) → member (l .id) ids ≡ m → (b : Bool) → isManifest l ≡ b → withoutManifests (stay ids ls) ≡ stay ids (withoutManifests ls)
         → withoutManifests (cond m (stay ids ls) (l ∷ stay ids ls)) ≡ stay ids (cond b (withoutManifests ls) (l ∷ withoutManifests ls))
     pick true h true k ih = ih
     pick true h false k ih = rw h ih
@@ -95,15 +95,15 @@ live-append (x ∷ xs) ys (s ∷ ss) ts n = rw (live-append xs ys ss ts (omega a
 without-append : (xs ys : List Link) → withoutManifests (xs ++ ys) ≡ withoutManifests xs ++ withoutManifests ys
 unfolding withoutManifests
 without-append [] ys = refl
-without-append (x ∷ xs) ys = rw (without-append xs ys) (pick (eqb (x .kind) manifestKind))
+without-append (x ∷ xs) ys = rw (without-append xs ys) (pick (isManifest x))
   where
     pick : (b : Bool) → cond b (withoutManifests xs ++ withoutManifests ys) (x ∷ (withoutManifests xs ++ withoutManifests ys))
         ≡ cond b (withoutManifests xs) (x ∷ withoutManifests xs) ++ withoutManifests ys
     pick true = refl
     pick false = refl
 
-bodies-others : (at id ts : ℕ) (bs : List Body) → All BodyHeld bs → All (λ l. eqb (l .kind) manifestKind ≡ false) (bodyLinks at id ts bs)
-unfolding All bodyLinks linkOf
+bodies-others : (at id ts : ℕ) (bs : List Body) → All BodyHeld bs → All (λ l. isManifest l ≡ false) (bodyLinks at id ts bs)
+unfolding All bodyLinks linkOf isManifest
 bodies-others at id ts [] t = tt
 bodies-others at id ts (b ∷ bs) t = (t .0 .no-manifest, bodies-others (at + bodySize b) (id + 1) ts bs (t .1))
 
@@ -114,7 +114,7 @@ bodies-unplaced at at′ id ts (b ∷ bs) =
     ap (λ (ls : List Link). movedTo 0 (linkOf 0 (b .kind) (b .flags) id ts (b .payload)) ∷ ls) (bodies-unplaced (at + bodySize b) (at′ + bodySize b) (id + 1) ts bs)
 
 -- what was copied before, less the retired ones, and the bodies
-after-append : (r : Found Link) (bs : List Body) (ids : List ℕ) (ts : ℕ) → eqb (r .link .kind) manifestKind ≡ true → All BodyHeld bs
+after-append : (r : Found Link) (bs : List Body) (ids : List ℕ) (ts : ℕ) → isManifest (r .link) ≡ true → All BodyHeld bs
     → withoutManifests (liveOf (newLinks (some r) bs ts) (newStates (some r) bs ids))
     ≡ stay ids (copied r) ++ bodyLinks (startOf (some r)) (nextId (some r)) ts bs
 unfolding newLinks newStates upTo keptStates copied live withoutManifests liveOf
@@ -144,8 +144,8 @@ abbrev foundAfter : List ℕ → List ℕ → List ℕ → ℕ → Found Link
 foundAfter f batch ids ts = record { before = newLinks (opened f) (bodiesOf batch) ts; link = newManifest (opened f) (bodiesOf batch) ids ts }
 
 module _ (f : List ℕ) (r : Found Link) (e : opened f ≡ some r) (room n : ℕ) (batch ids : List ℕ) (ts : ℕ) (t : ts < 2 ^ 64) (y : Fits room n (opened f) batch ids) where
-  is-manifest : eqb (r .link .kind) manifestKind ≡ true
-  unfolding opened openOf
+  is-manifest : isManifest (r .link) ≡ true
+  unfolding opened openOf isManifest
   is-manifest =
       let s : LastIn confirmed (chain f) r = last-stands confirmed (chain f) r e in
       eq-eqb (r .link .kind) manifestKind (confirmed-parts (r .before) (r .link) (s .holds) .kind-is)

@@ -2,7 +2,7 @@
 -- input and the whole buffer after the call, in the order of §11's sentences. Definitions only.
 -- Assumes nothing.
 use Prim.Native.Nat.{ℕ, _+_}
-use mathlib.Core.Bool.{cond}
+use mathlib.Core.Bool.{Bool, cond}
 use mathlib.Core.Option.{Option, none, some}
 use mathlib.Core.List.{List, [], _∷_, _++_}
 use lib.Dec.{eqb}
@@ -23,9 +23,12 @@ use Rattle.compacting.specs.declared.Compacted.the-variants.{At, Refused
 -- ---- what is written
 
 -- 'live segments except those of type 0x05, in directory order'
+unfoldable pub isManifest : Link → Bool
+isManifest l = eqb (l .kind) manifestKind
+
 unfoldable pub withoutManifests : List Link → List Link
 withoutManifests [] = []
-withoutManifests (l ∷ ls) = cond (eqb (l .kind) manifestKind) (withoutManifests ls) (l ∷ withoutManifests ls)
+withoutManifests (l ∷ ls) = cond (isManifest l) (withoutManifests ls) (l ∷ withoutManifests ls)
 
 unfoldable pub copied : Found Link → List Link
 copied r = withoutManifests (live r)

@@ -16,11 +16,11 @@ use Rattle.segment.specs.Header.{Link, reader, size, whole}
 use Rattle.segment.specs.Chained.{chain, Rising, chain-rising, rising-front}
 use Rattle.segment.specs.Written.{segment}
 use Rattle.segment.specs.WrittenLaws.{segment-length}
-use Rattle.manifest.specs.Payload.{manifestKind, confirmed}
+use Rattle.manifest.specs.Payload.{confirmed}
 use Rattle.manifest.specs.Opening.{opened, states}
 use Rattle.reading.specs.Live.{liveOf, live}
 use Rattle.reading.specs.Placed.{all-live}
-use Rattle.compacting.specs.Compact.{withoutManifests, copied, segmentsOf, movedTo, movedFrom, damaged}
+use Rattle.compacting.specs.Compact.{isManifest, withoutManifests, copied, segmentsOf, movedTo, movedFrom, damaged}
 
 -- ---- some of the links
 
@@ -28,7 +28,7 @@ use Rattle.compacting.specs.Compact.{withoutManifests, copied, segmentsO
 all-without : (P : Link → Type 0) (ls : List Link) → All P ls → All P (withoutManifests ls)
 unfolding withoutManifests All
 all-without P [] t = tt
-all-without P (l ∷ ls) t = pick (eqb (l .kind) manifestKind) (all-without P ls (t .1))
+all-without P (l ∷ ls) t = pick (isManifest l) (all-without P ls (t .1))
   where
     pick : (b : Bool) → All P (withoutManifests ls) → All P (cond b (withoutManifests ls) (l ∷ withoutManifests ls))
     pick true ih = ih
@@ -36,20 +36,20 @@ all-without P (l ∷ ls) t = pick (eqb (l .kind) manifestKind) (all-without P ls
 
 pub all-copied : (P : Link → Type 0) (r : Found Link) → All P (r .before) → All P (copied r)
 unfolding copied live
-all-copied P r t = all-without P (live r) (all-live P (r .before) (states r) t)
+all-copied P r t = all-without P _ (all-live P (r .before) _ t)
 
-pub none-manifest : (ls : List Link) → All (λ l. eqb (l .kind) manifestKind ≡ false) (withoutManifests ls)
+pub none-manifest : (ls : List Link) → All (λ l. isManifest l ≡ false) (withoutManifests ls)
 unfolding withoutManifests All
 none-manifest [] = tt
-none-manifest (l ∷ ls) = pick (eqb (l .kind) manifestKind) refl (none-manifest ls)
+none-manifest (l ∷ ls) = pick (isManifest l) refl (none-manifest ls)
   where
-    pick : (b : Bool) → eqb (l .kind) manifestKind ≡ b → All (λ m. eqb (m .kind) manifestKind ≡ false) (withoutManifests ls)
-        → All (λ m. eqb (m .kind) manifestKind ≡ false) (cond b (withoutManifests ls) (l ∷ withoutManifests ls))
+    pick : (b : Bool) → isManifest l ≡ b → All (λ m. isManifest m ≡ false) (withoutManifests ls)
+        → All (λ m. isManifest m ≡ false) (cond b (withoutManifests ls) (l ∷ withoutManifests ls))
     pick true e ih = ih
     pick false e ih = (e, ih)
 
 -- a list that has none stays as it is
-pub without-none : (ls : List Link) → All (λ l. eqb (l .kind) manifestKind ≡ false) ls → withoutManifests ls ≡ ls
+pub without-none : (ls : List Link) → All (λ l. isManifest l ≡ false) ls → withoutManifests ls ≡ ls
 unfolding withoutManifests All
 without-none [] t = refl
 without-none (l ∷ ls) t = rw (t .0) (ap (λ (xs : List Link). l ∷ xs) (without-none ls (t .1)))
@@ -80,7 +80,7 @@ rising-live (l ∷ ls) zs ss least r = rising-pick (eqb (getD ss 0 0) 0) l (live
 rising-without : (ls zs : List Link) (least : ℕ) → Rising least (ls ++ zs) → Rising least (withoutManifests ls ++ zs)
 unfolding withoutManifests Rising
 rising-without [] zs least r = r
-rising-without (l ∷ ls) zs least r = pick (eqb (l .kind) manifestKind) (rising-without ls zs (l .id + 1) (r .1))
+rising-without (l ∷ ls) zs least r = pick (isManifest l) (rising-without ls zs (l .id + 1) (r .1))
   where
     pick : (b : Bool) → Rising (l .id + 1) (withoutManifests ls ++ zs) → Rising least (cond b (withoutManifests ls) (l ∷ withoutManifests ls) ++ zs)
     pick true ih = rising-pick false l (withoutManifests ls) zs least (r .0) ih
@@ -88,7 +88,7 @@ rising-without (l ∷ ls) zs least r = pick (eqb (l .kind) manifestKind) (rising
 
 pub rising-copied : (r : Found Link) (zs : List Link) → Rising 0 (r .before ++ zs) → Rising 0 (copied r ++ zs)
 unfolding copied live
-rising-copied r zs h = rising-without (live r) zs 0 (rising-live (r .before) zs (states r) 0 h)
+rising-copied r zs h = rising-without _ zs 0 (rising-live (r .before) zs _ 0 h)
 
 -- of a file that opens
 pub live-rising : (f : List ℕ) (r : Found Link) → opened f ≡ some r → Rising 0 (live r)
@@ -111,6 +111,9 @@ unfolding sizes
 within-pick true l xs ls w = let f = w .fewer in let s = w .smaller in record { fewer = omega arith; smaller = omega arith }
 within-pick false l xs ls w = let f = w .fewer in let s = w .smaller in record { fewer = omega arith; smaller = omega arith }
 
+within-both : (xs ys zs : List Link) → Within xs ys → Within ys zs → Within xs zs
+within-both xs ys zs a b = record { fewer = omega (arith, a .fewer, b .fewer); smaller = omega (arith, a .smaller, b .smaller) }
+
 live-within : (ls : List Link) (ss : List ℕ) → Within (liveOf ls ss) ls
 unfolding liveOf
 live-within [] ss = record { fewer = omega arith; smaller = omega arith }
@@ -119,7 +122,7 @@ live-within (l ∷ ls) ss = within-pick (eqb (getD ss 0 0) 0) l (liveOf ls (drop
 without-within : (ls : List Link) → Within (withoutManifests ls) ls
 unfolding withoutManifests
 without-within [] = record { fewer = omega arith; smaller = omega arith }
-without-within (l ∷ ls) = pick (eqb (l .kind) manifestKind) (without-within ls)
+without-within (l ∷ ls) = pick (isManifest l) (without-within ls)
   where
     pick : (b : Bool) → Within (withoutManifests ls) ls → Within (cond b (withoutManifests ls) (l ∷ withoutManifests ls)) (l ∷ ls)
     pick true ih = within-pick false l (withoutManifests ls) ls ih
@@ -128,9 +131,7 @@ without-within (l ∷ ls) = pick (eqb (l .kind) manifestKind) (without-within ls
 pub copied-within : (r : Found Link) → Within (copied r) (r .before)
 unfolding copied live
 copied-within r =
-    let a = live-within (r .before) (states r) in
-    let b = without-within (live r) in
-    record { fewer = omega (arith, a .fewer, b .fewer); smaller = omega (arith, a .smaller, b .smaller) }
+    within-both _ _ _ (without-within _) (live-within (r .before) _)
 
 -- ---- their bytes, and where they stand then
 

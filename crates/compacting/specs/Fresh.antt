@@ -131,15 +131,15 @@ module _ (f : List ℕ) (r : Found Link) (t : Bytes f) (e : opened f ≡ some r)
   pub payload-long : length (freshPayload r) ≡ payloadLength (length (copied r))
   unfolding freshPayload
   payload-long =
-      payload-length (movedFrom 0 (copied r)) (replicate (length (copied r)) 0) (length (segmentsOf (copied r))) (r .link .id) moved-hashed
+      payload-length (movedFrom 0 (copied r)) _ _ _ moved-hashed
       ∙ ap payloadLength (moved-length 0 (copied r))
 
   pub fresh-length : length (freshFile r) ≡ length (segmentsOf (copied r)) + (64 + round64 (payloadLength (length (copied r))))
   unfolding freshFile
   fresh-length =
-      length-append (segmentsOf (copied r)) (segment manifestKind 0 (r .link .id) (r .link .timestamp) (freshPayload r))
+      length-append (segmentsOf (copied r)) _
       ∙ ap (λ (n : ℕ). length (segmentsOf (copied r)) + n)
-      (segment-length manifestKind 0 (r .link .id) (r .link .timestamp) (freshPayload r) ∙ ap (λ (n : ℕ). 64 + round64 n) payload-long)
+      (segment-length _ _ _ _ (freshPayload r) ∙ ap (λ (n : ℕ). 64 + round64 n) payload-long)
 
   -- 'The result never ends later than the old manifest'
   pub never-later : length (freshFile r) ≤ r .link .offset + size (r .link)

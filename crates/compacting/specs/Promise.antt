@@ -12,8 +12,9 @@ use Rattle.answers.specs.Answer.{Accepted}
 use Rattle.segment.specs.chain.Chain.{All, Found}
 use Rattle.segment.specs.Header.{Link, size}
 use Rattle.segment.specs.Written.{segment}
+use Rattle.manifest.specs.Payload.{manifestKind}
 use Rattle.manifest.specs.Opening.{opened, states, openAnswer}
-use Rattle.reading.specs.Live.{withId}
+use Rattle.reading.specs.Live.{live, withId}
 use Rattle.reading.specs.Answers.{Part, Handed, NotHanded, partIn, vectorCase, vectorAfter, valueIn}
 use Rattle.compacting.specs.Compact.{copied, movedTo, freshFound, compactCase, compactBuffer}
 use Rattle.compacting.specs.declared.Compacted.the-variants.{At}
@@ -46,6 +47,8 @@ pub record Compaction (f buf : List ℕ) (end id count : ℕ) : Type 0 where
   pub in-limit : length f ≤ maxFile
   -- 'headers unchanged': each segment is written as it stands in the old file, header, payload and padding
   pub unchanged : All (λ l. segment (l .kind) (l .flags) (l .id) (l .timestamp) (l .payload) ≡ take (size l) (drop (l .offset) f)) (copied found)
+  -- 'one manifest .. with the old manifest's id, timestamp ..'
+  pub manifest : (freshFound found .link .id ≡ found .link .id) × (freshFound found .link .timestamp ≡ found .link .timestamp)
   -- opening the written file finds the manifest with these segments before it, all live, and answers what compaction answered
   pub reopens : opened (writtenFile f buf end) ≡ some (freshFound found)
   pub all-live : states (freshFound found) ≡ replicate count 0
@@ -54,8 +57,9 @@ pub record Compaction (f buf : List ℕ) (end id count : ℕ) : Type 0 where
   -- its live segments are the old file's but for their places and the manifests
   pub alike : unplaced (copied found) ≡ unplaced (copied (freshFound found))
   pub answers : SameAnswers f (writtenFile f buf end) (copied found)
-  -- 'Ids of type 0x05 now answer 3', as do those of segments that were retired
-  pub others : (x : ℕ) → withId x (copied found) ≡ none → partIn (writtenFile f buf end) x ≡ NotHanded 3
+  -- 'Ids of type 0x05 now answer 3', and ids that no live segment has still do
+  pub manifests : (x : ℕ) (l : Link) → withId x (live found) ≡ some l → l .kind ≡ manifestKind → partIn (writtenFile f buf end) x ≡ NotHanded 3
+  pub missing : (x : ℕ) → withId x (live found) ≡ none → partIn (writtenFile f buf end) x ≡ NotHanded 3
   -- 'The result never ends later than the old manifest'
   pub ends : length (writtenFile f buf end) ≡ end
   pub never-later : end ≤ found .link .offset + size (found .link)

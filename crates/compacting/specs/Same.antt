@@ -1,6 +1,6 @@
 -- Files whose copied segments are alike but for their places answer alike: vectors, components, and the payloads of these segments.
 -- Assumes nothing.
-use Prim.Native.Nat.{ℕ, _+_, _≤_}
+use Prim.Native.Nat.{ℕ, _+_, _≤_, _<_}
 use mathlib.Core.Path.{_≡_, refl, sym, ap, subst, _∙_}
 use mathlib.Core.Bool.{Bool, true, false, cond}
 use mathlib.Core.Option.{Option, none, some, Option·some-injective}
@@ -8,7 +8,7 @@ use mathlib.Core.List.{List, [], _∷_, _++_, map, map-append, reverse, reverse-
 use native.Mathlib.Omega.{arith}
 use lib.Dec.{eqb}
 use lib.ListN.{length}
-use borrow.Author.Tests.{eqb-true, ne-eqb}
+use borrow.Author.Tests.{eqb-true, eq-eqb, ne-eqb}
 use Rattle.answers.specs.limits.Limits.{maxFile}
 use Rattle.segment.specs.chain.Chain.{All, Found}
 use Rattle.segment.specs.chain.Laws.{all-map}
@@ -22,7 +22,7 @@ use Rattle.vecseg.specs.Find.{Place, findIn}
 use Rattle.reading.specs.Live.{live, vectorsOf, searchOrder, withId}
 use Rattle.reading.specs.Placed.{all-with}
 use Rattle.reading.specs.Answers.{Handed, NotHanded, partOf, partFound, partIn, Hit, Held, Missing, Bad, hitOf, hitInSegment, orElse, searchIn, hitFound, hitIn, vectorHit, bufferHit, vectorCase, vectorAfter, valueHit, valueIn}
-use Rattle.compacting.specs.Compact.{withoutManifests, copied, movedTo, movedFrom}
+use Rattle.compacting.specs.Compact.{isManifest, withoutManifests, copied, movedTo, movedFrom}
 use Rattle.compacting.specs.Copied.{live-rising}
 use Rattle.compacting.specs.Promise.{unplaced, withoutPlace, SameAnswers}
 
@@ -35,14 +35,14 @@ unplaced-moved at (l ∷ ls) = ap (λ (xs : List Link). movedTo 0 l ∷ xs) (unp
 
 -- of the copied segments those that hold vectors are all that do
 vectors-without : (ls : List Link) → vectorsOf (withoutManifests ls) ≡ vectorsOf ls
-unfolding vectorsOf withoutManifests
+unfolding vectorsOf withoutManifests isManifest
 vectors-without [] = refl
-vectors-without (l ∷ ls) = pick (eqb (l .kind) manifestKind) refl (vectors-without ls)
+vectors-without (l ∷ ls) = pick (isManifest l) refl (vectors-without ls)
   where
-    pick : (b : Bool) → eqb (l .kind) manifestKind ≡ b → vectorsOf (withoutManifests ls) ≡ vectorsOf ls
+    pick : (b : Bool) → isManifest l ≡ b → vectorsOf (withoutManifests ls) ≡ vectorsOf ls
         → vectorsOf (cond b (withoutManifests ls) (l ∷ withoutManifests ls)) ≡ cond (eqb (l .kind) vecKind) (l ∷ vectorsOf ls) (vectorsOf ls)
     pick true e ih =
-        let k : l .kind ≡ manifestKind = eqb-true (l .kind) manifestKind e in
+        let k = eqb-true (l .kind) _ e in
         ih ∙ rw (ne-eqb (l .kind) vecKind (λ q. omega arith))
     pick false e ih = rw ih
 
@@ -137,7 +137,7 @@ with-id id (x ∷ xs) l e = pick (eqb (x .id) id) refl e (with-id id xs l)
 with-copied : (id : ℕ) (ls : List Link) (l : Link) (least : ℕ) → Rising least ls → withId id (withoutManifests ls) ≡ some l → withId id ls ≡ some l
 unfolding withId withoutManifests Rising
 with-copied id [] l least r e = e
-with-copied id (x ∷ xs) l least r e = pick (eqb (x .kind) manifestKind) e (with-copied id xs l (x .id + 1) (r .1))
+with-copied id (x ∷ xs) l least r e = pick (isManifest x) e (with-copied id xs l (x .id + 1) (r .1))
   where
     pick : (b : Bool) → withId id (cond b (withoutManifests xs) (x ∷ withoutManifests xs)) ≡ some l → (withId id (withoutManifests xs) ≡ some l → withId id xs ≡ some l)
         → cond (eqb (x .id) id) (some x) (withId id xs) ≡ some l
@@ -151,6 +151,55 @@ with-copied id (x ∷ xs) l least r e = pick (eqb (x .kind) manifestKind) e (wit
         here : (t : Bool) → cond t (some x) (withId id (withoutManifests xs)) ≡ some l → cond t (some x) (withId id xs) ≡ some l
         here true q = q
         here false q = ih q
+
+-- the id of a live manifest is that of no copied segment, and so is one that no live segment has
+with-less : (id : ℕ) (ls : List Link) → withId id ls ≡ none → withId id (withoutManifests ls) ≡ none
+unfolding withId withoutManifests
+with-less id [] e = e
+with-less id (x ∷ xs) e = pick (eqb (x .id) id) refl e (with-less id xs)
+  where
+    pick : (b : Bool) → eqb (x .id) id ≡ b → cond b (some x) (withId id xs) ≡ none → (withId id xs ≡ none → withId id (withoutManifests xs) ≡ none)
+        → withId id (cond (isManifest x) (withoutManifests xs) (x ∷ withoutManifests xs)) ≡ none
+    pick true q h ih = absurd (let z : _≡_ {A = ℕ} 0 1 = cc in omega arith)
+    pick false q h ih = less (isManifest x)
+      where
+        less : (t : Bool) → withId id (cond t (withoutManifests xs) (x ∷ withoutManifests xs)) ≡ none
+        less true = ih h
+        less false = rw q (ih h)
+
+-- an id below those of a rising list is none of them
+with-below : (id : ℕ) (ls : List Link) (least : ℕ) → Rising least ls → id < least → withId id ls ≡ none
+unfolding withId Rising
+with-below id [] least r h = refl
+with-below id (x ∷ xs) least r h =
+    let low = r .0 in
+    rw (ne-eqb (x .id) id (λ q. omega arith)) (with-below id xs (x .id + 1) (r .1) (omega arith))
+
+with-manifest : (id : ℕ) (ls : List Link) (l : Link) (least : ℕ) → Rising least ls → withId id ls ≡ some l → isManifest l ≡ true → withId id (withoutManifests ls) ≡ none
+unfolding withId withoutManifests Rising
+with-manifest id [] l least r e k = refl
+with-manifest id (x ∷ xs) l least r e k = pick (eqb (x .id) id) refl e (with-manifest id xs l (x .id + 1) (r .1))
+  where
+    pick : (b : Bool) → eqb (x .id) id ≡ b → cond b (some x) (withId id xs) ≡ some l → (withId id xs ≡ some l → isManifest l ≡ true → withId id (withoutManifests xs) ≡ none)
+        → withId id (cond (isManifest x) (withoutManifests xs) (x ∷ withoutManifests xs)) ≡ none
+    pick true q h ih =
+        let same : x ≡ l = Option·some-injective _ _ h in
+        let i = eqb-true (x .id) id q in
+        rw (ap isManifest same ∙ k) (with-less id xs (with-below id xs (x .id + 1) (r .1) (omega arith)))
+    pick false q h ih = rest (isManifest x)
+      where
+        rest : (t : Bool) → withId id (cond t (withoutManifests xs) (x ∷ withoutManifests xs)) ≡ none
+        rest true = ih h k
+        rest false = rw q (ih h k)
+
+module _ (f : List ℕ) (r : Found Link) (e : opened f ≡ some r) (id : ℕ) where
+  pub manifest-gone : (l : Link) → withId id (live r) ≡ some l → l .kind ≡ manifestKind → withId id (copied r) ≡ none
+  unfolding copied isManifest
+  manifest-gone l h k = with-manifest id (live r) l 0 (live-rising f r e) h (eq-eqb (l .kind) manifestKind k)
+
+  pub missing-gone : withId id (live r) ≡ none → withId id (copied r) ≡ none
+  unfolding copied
+  missing-gone h = with-less id (live r) h
 
 -- an option's link without its place
 unfoldable unplacedLink : Option Link → Option Link

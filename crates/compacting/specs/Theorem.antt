@@ -6,6 +6,8 @@ use mathlib.Core.Bool.{Bool, true, false, cond}
 use mathlib.Core.Option.{Option, none, some}
 use mathlib.Core.List.{List, [], _∷_}
 use native.Mathlib.Omega.{arith}
+use native.Mathlib.Nat.{lt-of-not-le}
+use native.Mathlib.Decide.{decLe}
 use lib.Dec.{eqb, leb}
 use lib.ListN.{length, take, drop, replicate, length-drop}
 use borrow.Author.Tests.{leb-true, eqb-true, le-leb}
@@ -26,14 +28,14 @@ use Rattle.segment.specs.Written.{linkOf}
 use Rattle.segment.specs.WrittenLaws.{linkOf-size}
 use Rattle.manifest.specs.Payload.{manifestKind, manifestPayload}
 use Rattle.manifest.specs.Opening.{opened, states, tried, foundCase, openedAnswer, openAnswer}
-use Rattle.manifest.specs.OpeningLaws.{at-within, open-within}
+use Rattle.manifest.specs.OpeningLaws.{at-long, at-within, open-within}
 use Rattle.reading.specs.Live.{liveOf, live, withId}
 use Rattle.reading.specs.Placed.{at-inside}
 use Rattle.reading.specs.Answers.{NotHanded, partOf, partFound, partIn}
-use Rattle.compacting.specs.Compact.{withoutManifests, copied, segmentsOf, movedTo, movedFrom, freshPayload, freshFile, freshManifest, freshFound, damaged, compactedBy, compactFound, compactCase, bufferFound, compactBuffer}
+use Rattle.compacting.specs.Compact.{isManifest, withoutManifests, copied, segmentsOf, movedTo, movedFrom, freshPayload, freshFile, freshManifest, freshFound, damaged, compactedBy, compactFound, compactCase, bufferFound, compactBuffer}
 use Rattle.compacting.specs.Copied.{live-all, none-manifest, without-none, moved-length, all-moved, all-whole, whole-sound}
 use Rattle.compacting.specs.Fresh.{link-inside, never-later, payload-long, fresh-length, fresh-states, unchanged, fresh-opens}
-use Rattle.compacting.specs.Same.{unplaced-moved, same-answers, with-moved}
+use Rattle.compacting.specs.Same.{manifest-gone, missing-gone, unplaced-moved, same-answers, with-moved}
 use Rattle.compacting.specs.Promise.{unplaced, Compaction, writtenFile}
 use Rattle.compacting.specs.declared.Compacted.{Compacted}
 use Rattle.compacting.specs.declared.Compacted.the-variants.{At, Refused}
@@ -57,10 +59,10 @@ module _ (f : List ℕ) (r : Found Link) (t : Bytes f) (e : opened f ≡ some r)
       ap (liveOf (movedFrom 0 (copied r))) (fresh-states f r t e ∙ ap (λ (n : ℕ). replicate n 0) (sym (moved-length 0 (copied r)))) ∙ live-all (movedFrom 0 (copied r))
 
   pub copied-fresh : copied (freshFound r) ≡ movedFrom 0 (copied r)
-  unfolding copied movedTo
+  unfolding copied movedTo isManifest
   copied-fresh =
       ap withoutManifests live-fresh
-      ∙ without-none (movedFrom 0 (copied r)) (all-moved (λ l. eqb (l .kind) manifestKind ≡ false) (λ at l h. h) 0 (copied r) (none-manifest (live r)))
+      ∙ without-none (movedFrom 0 (copied r)) (all-moved (λ l. isManifest l ≡ false) (λ at l h. h) 0 (copied r) (none-manifest (live r)))
 
   -- ---- compacted again
 
@@ -76,6 +78,27 @@ module _ (f : List ℕ) (r : Found Link) (t : Bytes f) (e : opened f ≡ some r)
 
   same-count : length (copied (freshFound r)) ≡ length (copied r)
   same-count = ap length copied-fresh ∙ moved-length 0 (copied r)
+
+-- ---- a refusal leaves the buffer
+
+refused-found : (buf : List ℕ) (n : ℕ) (o : Option (Found Link)) → compactFound buf o ≡ Refused n → bufferFound buf o ≡ buf
+unfolding compactFound compactedBy bufferFound writeAnswer writeBuffer
+refused-found buf n none q = refl
+refused-found buf n (some r) q = go (eqb (damaged (copied r)) 0) (leb (length (freshFile r)) (length buf)) q
+  where
+    go : (b c : Bool) → compactedBy r (cond b (cond c (Length (length (freshFile r))) (NotWritten 9)) (NotWritten (damaged (copied r)))) ≡ Refused n
+        → cond b (cond c (over buf 0 (freshFile r)) buf) buf ≡ buf
+    go true true z = absurd (let w : _≡_ {A = ℕ} 0 1 = cc in omega arith)
+    go true false z = refl
+    go false c z = refl
+
+pub refused-leaves : (f buf : List ℕ) (n : ℕ) → compactCase f buf ≡ Refused n → compactBuffer f buf ≡ buf
+unfolding compactCase compactBuffer
+refused-leaves f buf n q = go (decLe (length f) maxFile)
+  where
+    go : Dec (length f ≤ maxFile) → compactBuffer f buf ≡ buf
+    go (yes h) = at-within buf (bufferFound buf) f h ∙ refused-found buf n (opened f) (sym (at-within (Refused 1) (compactFound buf) f h) ∙ q)
+    go (no h) = at-long buf (bufferFound buf) f (lt-of-not-le h)
 
 -- ---- what an accepted compaction has passed
 
@@ -169,18 +192,21 @@ module _ (f buf : List ℕ) (end id count : ℕ) (t : Bytes f) (in-limit : lengt
   alike = sym (ap unplaced (copied-fresh f r t e) ∙ unplaced-moved 0 (copied r))
 
   compaction : Compaction f buf end id count
+  unfolding freshManifest linkOf
   compaction =
       record {
         found = r;
         opens = e;
         in-limit = in-limit;
         unchanged = unchanged f r t e (a .sound);
+        manifest = (refl, refl);
         reopens = reopens;
         all-live = fresh-states f r t e ∙ ap (λ (n : ℕ). replicate n 0) (sym (a .count-is));
         reports = reports;
         alike = alike;
         answers = same-answers f g r (freshFound r) in-limit within e reopens alike;
-        others = others;
+        manifests = λ x l h k. others x (manifest-gone f r e x l h k);
+        missing = λ x h. others x (missing-gone f r e x h);
         ends = ends;
         never-later = not-later;
         within = within;
