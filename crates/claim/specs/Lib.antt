@@ -7,4 +7,6 @@ pub mod ClaimHolds
 pub mod CutHolds
 pub mod Theorem
 pub mod Later
+pub mod AfterAppend
+pub mod InStepHolds
 pub mod LaterHolds
