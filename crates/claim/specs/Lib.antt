@@ -10,3 +10,4 @@ pub mod Later
 pub mod AfterAppend
 pub mod InStepHolds
 pub mod LaterHolds
+pub mod Parted
