@@ -2,30 +2,25 @@
 -- Assumes nothing.
 use Prim.Native.Nat.{ℕ, _+_, _^_, _≤_, _<_}
 use mathlib.Core.Path.{_≡_, refl, sym, ap, subst, _∙_}
-use mathlib.Core.Bool.{true, _&&_}
+use mathlib.Core.Bool.{true}
 use mathlib.Core.Option.{Option, none, some}
 use mathlib.Core.List.{List, [], _∷_, _++_, append-assoc}
 use native.Mathlib.Omega.{arith}
-use lib.Dec.{eqb, leb}
 use lib.ListN.{length, take, drop, replicate, length-append, length-replicate}
-use borrow.Author.Tests.{le-leb}
 use Rattle.octets.specs.Round.{round64}
 use Rattle.octets.specs.RoundLaws.{round64-ge}
-use Rattle.octets.specs.Zero.{sameBytes}
-use Rattle.octets.specs.ZeroLaws.{equal-same, and-split}
 use Rattle.answers.specs.limits.Limits.{maxFile, maxEntries}
 use Rattle.segment.specs.chain.Laws.{all-append, Exact, afters, afters-append, exact-append, sizes}
 use Rattle.segment.specs.chain.Chain.{All, Found, upTo, openOf}
 use Rattle.segment.specs.chain.Last.{LastIn, last-stands}
 use Rattle.segment.specs.chain.Walk.{sizes-append}
-use Rattle.segment.specs.Header.{Link, start, reader, size, whole, typeHeld, flagsHeld}
+use Rattle.segment.specs.Header.{Link, start, reader, size}
 use Rattle.segment.specs.Laws.{segment-format, afters-at}
 use Rattle.segment.specs.Chained.{chain, link-place, Rising, chain-rising, rising-front}
 use Rattle.segment.specs.Written.{segment, linkOf}
 use Rattle.segment.specs.WrittenLaws.{segment-length}
-use Rattle.segment.specs.Readback.{Fields, segment-exact, written-whole}
 use Rattle.manifest.specs.SizedLaws.{length-statesBy}
-use Rattle.manifest.specs.Payload.{manifestKind, entrySize, confirmed, manifestPayload, payloadLength, statesHeld, statesIn}
+use Rattle.manifest.specs.Payload.{manifestKind, entrySize, confirmed, payloadLength, statesHeld, statesIn}
 use Rattle.manifest.specs.PayloadLaws.{Hashed, chain-hashed, payload-length, states-back, states-append, states-live, confirmed-parts}
 use Rattle.manifest.specs.Made.{made-exact, made-confirmed}
 use Rattle.manifest.specs.Opening.{opened, states}

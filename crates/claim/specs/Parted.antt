@@ -1,11 +1,11 @@
 -- What can part two files in step: where one accepts an append and the other refuses it, the refusal is for room (1, 9) or for the number of entries
 -- (12). Batch, retirement and ids never part them.
 -- Assumes nothing.
-use Prim.Native.Nat.{ℕ, _+_, _-_, _^_, _≤_, _<_}
-use mathlib.Core.Path.{_≡_, refl, sym, ap, ap₂, _∙_}
+use Prim.Native.Nat.{ℕ, _+_, _-_, _^_, _≤_}
+use mathlib.Core.Path.{_≡_, refl, sym, ap, _∙_}
 use mathlib.Core.Bool.{Bool, true, false, cond, not, _&&_, _||_}
 use mathlib.Core.Logic.{_⊎_, inl, inr}
-use mathlib.Core.Option.{Option, none, some}
+use mathlib.Core.Option.{Option, some}
 use mathlib.Core.List.{List, [], _∷_}
 use native.Mathlib.Omega.{arith}
 use native.Mathlib.Nat.{lt-of-not-le}
@@ -14,15 +14,15 @@ use lib.Dec.{eqb, ltb}
 use lib.ListN.{length, take, drop, getD}
 use borrow.Author.Tests.{lt-ltb, le-ltb}
 use Rattle.answers.specs.limits.Limits.{maxFile, maxEntries}
-use Rattle.answers.specs.Answer.{Answer, Accepted, Refusal}
+use Rattle.answers.specs.Answer.{Accepted, Refusal}
 use Rattle.segment.specs.chain.Chain.{Found}
 use Rattle.segment.specs.Header.{Link}
 use Rattle.manifest.specs.Payload.{manifestKind}
 use Rattle.manifest.specs.Opening.{opened, states}
 use Rattle.reading.specs.Live.{liveOf, live}
-use Rattle.batch.specs.Form.{batchHeld, bodiesOf, member}
+use Rattle.batch.specs.Form.{bodiesOf}
 use Rattle.appending.specs.Retire.{retirable, retireHeld}
-use Rattle.appending.specs.Append.{oldLinks, oldStates, nextId, manifestId, newCount, newEnd, vectorsBad, Check, checked, isNone, appendChecks, answerOn, appendAnswer, Holds}
+use Rattle.appending.specs.Append.{oldLinks, oldStates, nextId, manifestId, newCount, newEnd, checked, appendChecks, answerOn, appendAnswer, Holds}
 use Rattle.appending.specs.Accepts.{Fits, accepted-when, empty-passes}
 use Rattle.compacting.specs.Compact.{isManifest, withoutManifests, copied, movedTo}
 use Rattle.compacting.specs.Promise.{unplaced}

@@ -1,2 +1,3 @@
+pub mod anew;
 pub mod cut;
 pub mod twice;

@@ -2,7 +2,7 @@
 -- that manifest, with all of them live.
 -- Assumes nothing.
 use Prim.Native.Nat.{ℕ, _+_, _^_, _≤_, _<_}
-use mathlib.Core.Path.{_≡_, refl, sym, ap, subst, _∙_}
+use mathlib.Core.Path.{_≡_, sym, ap, subst, _∙_}
 use mathlib.Core.Bool.{true}
 use mathlib.Core.Option.{some}
 use mathlib.Core.List.{List, [], _∷_, _++_, append-assoc}
@@ -13,9 +13,9 @@ use Rattle.octets.specs.RoundLaws.{round64-mono}
 use Rattle.octets.specs.ZeroLaws.{same-equal}
 use Rattle.octets.specs.le.Le.{Bytes}
 use Rattle.octets.specs.le.Laws.{bytes-drop}
-use Rattle.answers.specs.limits.Limits.{maxFile, maxEntries}
+use Rattle.answers.specs.limits.Limits.{maxEntries}
 use Rattle.segment.specs.chain.Chain.{All, Found, openOf, lastConfirmed}
-use Rattle.segment.specs.chain.Laws.{all-map, all-both, Exact, done, afters, exact-append, exact-length, sizes, walk-all}
+use Rattle.segment.specs.chain.Laws.{all-map, all-both, Exact, done, afters, exact-append, walk-all}
 use Rattle.segment.specs.chain.Last.{LastIn, last-stands, last-at-end}
 use Rattle.segment.specs.Header.{Link, State, start, reader, size, whole, contentHash}
 use Rattle.segment.specs.Laws.{segment-format, afters-at, flags-fit, lies, size-least}
@@ -25,14 +25,14 @@ use Rattle.segment.specs.WrittenLaws.{segment-length}
 use Rattle.segment.specs.Readback.{Fields, segment-exact}
 use Rattle.segment.specs.Rewritten.{kind-held, flags-held, id-fits, timestamp-fits, length-fits, segment-bytes}
 use Rattle.manifest.specs.Sized.{recordBy}
-use Rattle.manifest.specs.Payload.{manifestKind, manifestPayload, payloadLength, confirmed, statesHeld}
+use Rattle.manifest.specs.Payload.{manifestKind, payloadLength, confirmed, statesHeld}
 use Rattle.manifest.specs.PayloadLaws.{Hashed, lying-hashed, chain-hashed, payload-length, states-back, states-live, Confirmed, confirmed-parts}
 use Rattle.manifest.specs.Made.{made-exact, made-confirmed}
 use Rattle.manifest.specs.Opening.{opened, states}
 use Rattle.manifest.specs.Lying.{Lying, chain-lying}
 use Rattle.reading.specs.Placed.{all-at}
 use Rattle.compacting.specs.Compact.{copied, segmentsOf, movedTo, movedFrom, freshPayload, freshFile, freshManifest, freshFound, damaged}
-use Rattle.compacting.specs.Copied.{all-copied, rising-copied, Within, copied-within, segments-length, moved-length, moved-sizes, all-moved, all-whole}
+use Rattle.compacting.specs.Copied.{all-copied, rising-copied, copied-within, segments-length, moved-length, moved-sizes, all-moved, all-whole}
 
 -- ---- the chain of segments that lie in a file, written one behind the other
 

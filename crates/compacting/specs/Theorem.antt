@@ -1,7 +1,7 @@
 -- THE THEOREM of §11 for every accepted compaction: what was written, what opening and reading it answer, and that compacting it again gives the same.
 -- Assumes nothing.
 use Prim.Native.Nat.{ℕ, _+_, _-_, _/_, _≤_}
-use mathlib.Core.Path.{_≡_, refl, sym, ap, ap₂, subst, _∙_}
+use mathlib.Core.Path.{_≡_, refl, sym, ap, _∙_}
 use mathlib.Core.Bool.{Bool, true, false, cond}
 use mathlib.Core.Option.{Option, none, some}
 use mathlib.Core.List.{List, [], _∷_}
@@ -9,8 +9,8 @@ use native.Mathlib.Omega.{arith}
 use native.Mathlib.Nat.{lt-of-not-le}
 use native.Mathlib.Decide.{decLe}
 use lib.Dec.{eqb, leb}
-use lib.ListN.{length, take, drop, replicate, length-drop}
-use borrow.Author.Tests.{leb-true, eqb-true, le-leb}
+use lib.ListN.{length, replicate}
+use borrow.Author.Tests.{leb-true, eqb-true}
 use Rattle.octets.specs.Over.{over}
 use Rattle.octets.specs.Parts.{laid-front}
 use Rattle.octets.specs.Round.{round64}
@@ -19,15 +19,13 @@ use Rattle.answers.specs.limits.Limits.{maxFile}
 use Rattle.answers.specs.Answer.{Accepted}
 use Rattle.answers.specs.Write.{writeAnswer, writeBuffer}
 use Rattle.answers.specs.WriteLaws.{write-done}
-use Rattle.answers.specs.declared.Wrote.{Wrote}
 use Rattle.answers.specs.declared.Wrote.the-variants.{Length, Refused as NotWritten}
-use Rattle.segment.specs.chain.Chain.{All, Found}
+use Rattle.segment.specs.chain.Chain.{Found}
 use Rattle.segment.specs.Header.{Link, size, whole}
-use Rattle.segment.specs.Laws.{lies}
 use Rattle.segment.specs.Written.{linkOf}
 use Rattle.segment.specs.WrittenLaws.{linkOf-size}
-use Rattle.manifest.specs.Payload.{manifestKind, manifestPayload}
-use Rattle.manifest.specs.Opening.{opened, states, tried, foundCase, openedAnswer, openAnswer}
+use Rattle.manifest.specs.Payload.{manifestKind}
+use Rattle.manifest.specs.Opening.{opened, tried, foundCase, openedAnswer, openAnswer}
 use Rattle.manifest.specs.OpeningLaws.{at-long, at-within, open-within}
 use Rattle.reading.specs.Live.{liveOf, live, withId}
 use Rattle.reading.specs.Placed.{at-inside}
@@ -37,7 +35,6 @@ use Rattle.compacting.specs.Copied.{live-all, none-manifest, without-non
 use Rattle.compacting.specs.Fresh.{link-inside, never-later, payload-long, fresh-length, fresh-states, unchanged, fresh-opens}
 use Rattle.compacting.specs.Same.{manifest-gone, missing-gone, unplaced-moved, same-answers, with-moved}
 use Rattle.compacting.specs.Promise.{unplaced, Compaction, writtenFile}
-use Rattle.compacting.specs.declared.Compacted.{Compacted}
 use Rattle.compacting.specs.declared.Compacted.the-variants.{At, Refused}
 
 -- ---- the links of the fresh file
@@ -163,8 +160,13 @@ module _ (f buf : List ℕ) (end id count : ℕ) (t : Bytes f) (in-limit : lengt
   link-end : freshManifest r .offset + size (freshManifest r) ≡ end
   unfolding freshManifest linkOf
   link-end =
-      omega (arith, linkOf-size (length (segmentsOf (copied r))) manifestKind 0 (r .link .id) (r .link .timestamp) (freshPayload r),
-      ap round64 (payload-long f r t e), fresh-length f r t e, a .end-is)
+      omega (
+        arith,
+        linkOf-size (length (segmentsOf (copied r))) manifestKind 0 (r .link .id) (r .link .timestamp) (freshPayload r),
+        ap round64 (payload-long f r t e),
+        fresh-length f r t e,
+        a .end-is,
+      )
 
   reports : openAnswer g ≡ Accepted (freshManifest r .offset ∷ end ∷ id ∷ count ∷ (length g / 64 - freshManifest r .offset / 64) ∷ [])
   unfolding foundCase openedAnswer tried freshManifest linkOf
@@ -183,10 +185,11 @@ module _ (f buf : List ℕ) (end id count : ℕ) (t : Bytes f) (in-limit : lengt
   again : (buf′ : List ℕ) → end ≤ length buf′ → (compactCase g buf′ ≡ At end id count) × (compactBuffer g buf′ ≡ over buf′ 0 g)
   unfolding compactCase compactBuffer freshManifest linkOf
   again buf′ h =
-      let z = accepted buf′ (freshFound r) (fresh-sound f r t e (a .sound)) (omega (arith, ap length (same-file f r t e), a .end-is)) in
-      (at-within (Refused 1) (compactFound buf′) g within ∙ ap (compactFound buf′) reopens ∙ z .0
-      ∙ same-numbers _ _ _ end id count (ap length (same-file f r t e) ∙ sym (a .end-is)) (sym (a .id-is)) (same-count f r t e ∙ sym (a .count-is)),
-      at-within buf′ (bufferFound buf′) g within ∙ ap (bufferFound buf′) reopens ∙ z .1 ∙ ap (over buf′ 0) (same-file f r t e ∙ sym file-is))
+      let z = accepted buf′ (freshFound r) (fresh-sound f r t e (a .sound)) (omega (arith, ap length (same-file f r t e), a .end-is)) in (
+        at-within (Refused 1) (compactFound buf′) g within ∙ ap (compactFound buf′) reopens ∙ z .0
+            ∙ same-numbers _ _ _ end id count (ap length (same-file f r t e) ∙ sym (a .end-is)) (sym (a .id-is)) (same-count f r t e ∙ sym (a .count-is)),
+        at-within buf′ (bufferFound buf′) g within ∙ ap (bufferFound buf′) reopens ∙ z .1 ∙ ap (over buf′ 0) (same-file f r t e ∙ sym file-is),
+      )
 
   alike : unplaced (copied r) ≡ unplaced (copied (freshFound r))
   alike = sym (ap unplaced (copied-fresh f r t e) ∙ unplaced-moved 0 (copied r))

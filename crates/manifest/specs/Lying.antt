@@ -6,7 +6,7 @@ use mathlib.Core.Option.{some}
 use mathlib.Core.List.{List, [], _∷_, _++_, append-assoc}
 use native.Mathlib.Omega.{arith}
 use lib.ListN.{length, take, drop, getD, length-drop, length-map}
-use lib.Seq.{drop-drop, take-add, length-take-le, getD-drop}
+use lib.Seq.{drop-drop, take-add, getD-drop}
 use Rattle.octets.specs.le.Le.{leAt, leBytes, Bytes}
 use Rattle.octets.specs.le.Laws.{bytes-drop, le-back}
 use Rattle.segment.specs.chain.Chain.{All, walk}

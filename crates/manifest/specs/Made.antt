@@ -13,7 +13,7 @@ use Rattle.segment.specs.chain.Chain.{All}
 use Rattle.segment.specs.chain.Laws.{Exact}
 use Rattle.segment.specs.Header.{Link, State, reader, typeHeld, flagsHeld}
 use Rattle.segment.specs.Written.{segment, linkOf}
-use Rattle.segment.specs.Readback.{Fields, segment-exact, written-whole}
+use Rattle.segment.specs.Readback.{segment-exact, written-whole}
 use Rattle.manifest.specs.Payload.{manifestKind, manifestPayload, statesHeld, confirmed}
 use Rattle.manifest.specs.PayloadLaws.{Hashed, states-back}
 

@@ -3,27 +3,24 @@
 -- Assumes nothing.
 use Prim.Native.Nat.{ℕ, suc, _+_, _*_, _≤_, _<_}
 use mathlib.Core.Path.{_≡_, refl, sym, ap, ap₂, subst, _∙_}
-use mathlib.Core.Bool.{true, false, _&&_}
 use mathlib.Core.Option.{Option, none, some}
 use mathlib.Core.List.{List, [], _∷_, _++_}
 use native.Mathlib.Omega.{arith}
 use native.Mathlib.Nat.{lt-of-not-le}
 use native.Mathlib.Decide.{decLe}
-use lib.Dec.{eqb, leb}
 use lib.ListN.{length, take, drop, getD, length-map}
 use lib.Seq.{getD-take, getD-drop, take-suc}
-use Rattle.octets.specs.ZeroLaws.{same-equal, and-split}
 use Rattle.octets.specs.le.Le.{Bytes}
 use Rattle.answers.specs.limits.Limits.{maxFile, maxEntries}
 use Rattle.segment.specs.chain.Laws.{sizes}
 use Rattle.segment.specs.chain.Chain.{Found, openOf}
 use Rattle.segment.specs.chain.Last.{LastIn, last-stands}
-use Rattle.segment.specs.Header.{Link, whole, size, reader, noLink, lengthAt}
+use Rattle.segment.specs.Header.{Link, size, reader, noLink, lengthAt}
 use Rattle.segment.specs.Chained.{chain, offsetsOf, link-place}
 use Rattle.segment.specs.index.Offsets.{most, linkNo, Stored, stored-has, stored-few}
 use Rattle.segment.specs.index.Numbered.{Numbered, numbered, numbered-at, number-of}
 use Rattle.manifest.specs.SizedLaws.{statesBy-at}
-use Rattle.manifest.specs.Payload.{manifestKind, entrySize, statesHeld, confirmed, manifestPayload, payloadLength, statesIn, entriesEnd, statePlace}
+use Rattle.manifest.specs.Payload.{entrySize, confirmed, payloadLength, statesIn, entriesEnd, statePlace}
 use Rattle.manifest.specs.PayloadLaws.{confirmed-parts}
 use Rattle.manifest.specs.Opening.{opened, states, foundCase, openedCase}
 use Rattle.manifest.specs.OpeningLaws.{at-long, at-within}
@@ -31,7 +28,6 @@ use Rattle.manifest.specs.At.{length-payloadAt, record-ge}
 use Rattle.manifest.specs.Lying.{lying-inside, payload-lying, chain-lying}
 use Rattle.manifest.specs.declared.Opened.{Opened}
 use Rattle.manifest.specs.declared.Opened.the-variants.{At, NoManifest, Refused}
-use Rattle.opening.specs.Opened.{bounded}
 use Rattle.opening.specs.Candidate.{front-offsets}
 
 -- ---- what an answer says

@@ -12,8 +12,6 @@ use lib.ListN.{length, take, drop, getD, replicate, length-drop, take-append-dro
 use lib.Seq.{take-take, take-add, drop-drop, drop-cons, getD-take, length-take-le}
 use borrow.Author.Tests.{eqb-true}
 use Rattle.octets.specs.Round.{round64, padding}
-use Rattle.octets.specs.RoundLaws.{round64-ge}
-use Rattle.octets.specs.OverLaws.{drop-take}
 use Rattle.octets.specs.Parts.{part-front}
 use Rattle.octets.specs.Zero.{allZero}
 use Rattle.octets.specs.ZeroLaws.{all-zeros, same-equal, and-split}
