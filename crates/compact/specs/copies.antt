@@ -1,0 +1,3 @@
+-- The fresh file by the old one and offsets, and the steps of writing it.
+pub mod Copies
+pub mod CopyLaws
