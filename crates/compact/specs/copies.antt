@@ -1,3 +1,4 @@
 -- The fresh file by the old one and offsets, and the steps of writing it.
 pub mod Copies
 pub mod CopyLaws
+pub mod FileLaws
