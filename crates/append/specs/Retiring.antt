@@ -10,7 +10,7 @@ use Rattle.segment.specs.chain.Chain.{All}
 use Rattle.octets.specs.Over.{over}
 use Rattle.octets.specs.ZeroLaws.{zeros-left}
 use Rattle.segment.specs.Header.{Link}
-use Rattle.segment.specs.Chained.{offsetsOf, Rising, chain-rising}
+use Rattle.segment.specs.Chained.{offsetsOf, Rising, chain-rising, rising-front}
 use Rattle.manifest.specs.SizedLaws.{length-statesBy}
 use Rattle.manifest.specs.Payload.{entrySize, statesIn}
 use Rattle.manifest.specs.Opening.{opened, states}
@@ -19,7 +19,6 @@ use Rattle.manifest.specs.Lying.{Lying, chain-lying, lying-inside}
 use Rattle.opening.specs.Indexed.{ManifestAt}
 use Rattle.appending.specs.Retire.{retireHeld, retired}
 use Rattle.appending.specs.Append.{oldLinks, oldStates}
-use Rattle.appending.specs.Opens.{rising-front}
 use Rattle.octets.specs.Parts.{laid-front}
 use Rattle.append.specs.retire.Marks.{retireHeldBy, retiredBy, Rises, held-same, retired-same, rises-links}
 use Rattle.append.specs.Entries.{entryIdsAt, kindsAt, ids-lying, kinds-lying}

@@ -3,7 +3,6 @@ pub mod Retire
 pub mod Append
 pub mod Accepts
 pub mod Written
-pub mod Manifest
 pub mod States
 pub mod Opens
 pub mod Buffer

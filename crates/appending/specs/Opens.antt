@@ -20,24 +20,20 @@ use Rattle.segment.specs.chain.Last.{LastIn, last-stands}
 use Rattle.segment.specs.chain.Walk.{sizes-append}
 use Rattle.segment.specs.Header.{Link, start, reader, size, whole, typeHeld, flagsHeld}
 use Rattle.segment.specs.Laws.{segment-format, afters-at}
-use Rattle.segment.specs.Chained.{chain, link-place, Rising, chain-rising}
+use Rattle.segment.specs.Chained.{chain, link-place, Rising, chain-rising, rising-front}
 use Rattle.segment.specs.Written.{segment, linkOf}
 use Rattle.segment.specs.WrittenLaws.{segment-length}
 use Rattle.segment.specs.Readback.{Fields, segment-exact, written-whole}
 use Rattle.manifest.specs.SizedLaws.{length-statesBy}
 use Rattle.manifest.specs.Payload.{manifestKind, entrySize, confirmed, manifestPayload, payloadLength, statesHeld, statesIn}
+use Rattle.manifest.specs.PayloadLaws.{Hashed, chain-hashed, payload-length, states-back, states-append, states-live, confirmed-parts}
+use Rattle.manifest.specs.Made.{made-exact, made-confirmed}
 use Rattle.manifest.specs.Opening.{opened, states}
 use Rattle.batch.specs.Form.{Body}
 use Rattle.appending.specs.Retire.{retireHeld, retired}
 use Rattle.appending.specs.Append.{keptLinks, startOf, nextId, oldLinks, oldStates, keptStates, bodyLinks, bodyBytes, bodiesEnd, manifestAt, manifestId, newCount, newEnd, newLinks, newStates, newPayload, newBytes}
-use Rattle.appending.specs.Written.{BodyHeld, bodyLinks-length, bodies-exact, afters-bodies, bodies-length}
-use Rattle.appending.specs.Manifest.{Hashed, chain-hashed, bodies-hashed, payload-length, states-back}
-use Rattle.appending.specs.States.{states-append, states-live, retired-length, retired-held}
-
-pub rising-front : (xs ys : List Link) (least : ℕ) → Rising least (xs ++ ys) → Rising least xs
-unfolding Rising
-rising-front [] ys least r = tt
-rising-front (x ∷ xs) ys least r = (r .0, rising-front xs ys (x .id + 1) (r .1))
+use Rattle.appending.specs.Written.{BodyHeld, bodies-hashed, bodyLinks-length, bodies-exact, afters-bodies, bodies-length}
+use Rattle.appending.specs.States.{retired-length, retired-held}
 
 -- ---- what is kept of a file
 
@@ -51,13 +47,6 @@ pub record Kept (o : Option (Found Link)) : Type 0 where
 kept-none : Kept none
 unfolding upTo afters startOf nextId sizes All keptStates statesHeld
 kept-none = record { state = refl; sizes-is = refl; hashed = tt; many = λ ids. refl; held = λ ids h. refl }
-
--- the states of a confirmed manifest are held
-confirmed-states : (b : List Link) (l : Link) → confirmed b l ≡ true → statesHeld b (statesIn (length b) (drop 8 (l .payload))) ≡ true
-unfolding confirmed
-confirmed-states b l e =
-    let same = and-split (eqb (l .kind) manifestKind && leb (length b) maxEntries && whole l && statesHeld b (statesIn (length b) (drop 8 (l .payload)))) _ e in
-    and-split (eqb (l .kind) manifestKind && leb (length b) maxEntries && whole l) _ (same .0) .1
 
 kept-some : (f : List ℕ) (r : Found Link) → LastIn confirmed (chain f) r → Kept (some r)
 unfolding upTo afters startOf nextId sizes keptStates statesHeld oldLinks oldStates states
@@ -82,7 +71,7 @@ kept-some f r s =
           (retired-length (r .before) (statesIn (length (r .before)) (drop 8 (r .link .payload))) ids)
           (retired-held (r .before) (statesIn (length (r .before)) (drop 8 (r .link .payload))) ids
           (rising-front (r .before) (r .link ∷ s .rest) 0 (subst (Rising 0) (s .split) (chain-rising f)))
-          n (confirmed-states (r .before) (r .link) (s .holds)) h)
+          n (confirmed-parts (r .before) (r .link) (s .holds) .states-held) h)
           (states-live (r .link ∷ []));
     }
 
@@ -95,14 +84,6 @@ kept f = go (opened f) refl
     go (some r) e = kept-some f r (last-stands confirmed (chain f) r e)
 
 -- ---- what is written
-
-manifest-held : typeHeld manifestKind ≡ true
-unfolding typeHeld
-manifest-held = refl
-
-flags-none : flagsHeld 0 ≡ true
-unfolding flagsHeld
-flags-none = refl
 
 -- the link of the new manifest
 unfoldable pub newManifest : Option (Found Link) → List Body → List ℕ → ℕ → Link
@@ -151,18 +132,11 @@ module _ (o : Option (Found Link)) (y : Kept o) (bs : List Body) (ids : List ℕ
       (subst (λ (k : ℕ). statesHeld (bodyLinks (startOf o) (nextId o) ts bs) (replicate k 0) ≡ true) (bodyLinks-length (startOf o) (nextId o) ts bs)
       (states-live (bodyLinks (startOf o) (nextId o) ts bs)))
 
-  new-same : sameBytes (newPayload o bs ids ts) (manifestPayload (newLinks o bs ts) (newStates o bs ids) (manifestAt o bs) (manifestId o bs)) ≡ true
-  unfolding newPayload
-  new-same = equal-same (newPayload o bs ids ts)
-
   -- the new manifest is confirmed by what stands before it
   pub new-confirmed : newCount o bs ≤ maxEntries → retireHeld (oldLinks o) (oldStates o) ids ≡ true → confirmed (newLinks o bs ts) (newManifest o bs ids ts) ≡ true
-  unfolding confirmed newManifest linkOf
+  unfolding newManifest newPayload
   new-confirmed c h =
-      let at-most : leb (length (newLinks o bs ts)) maxEntries ≡ true = le-leb (length (newLinks o bs ts)) maxEntries (omega (arith, links-count)) in
-      let w : whole (linkOf (manifestAt o bs) manifestKind 0 (manifestId o bs) ts (newPayload o bs ids ts)) ≡ true =
-      written-whole (manifestAt o bs) manifestKind 0 (manifestId o bs) ts (newPayload o bs ids ts) in
-      rw (at-most, w, new-states, new-states-held h, new-same)
+      made-confirmed (newLinks o bs ts) (newStates o bs ids) (manifestAt o bs) (manifestId o bs) ts links-hashed states-count (omega (arith, links-count)) (new-states-held h)
 
   -- the new bytes reach to the new end
   pub new-length : startOf o + length (newBytes o bs ids ts) ≡ newEnd o bs
@@ -181,17 +155,7 @@ module _ (o : Option (Found Link)) (y : Kept o) (bs : List Body) (ids : List ℕ
       let g : bodiesEnd (startOf o) bs ≤ maxFile = omega arith in
       let n = new-payload-length in
       let r = round64-ge (payloadLength (newCount o bs)) in
-      let f : Fields (nextId o + length bs) manifestKind 0 (nextId o + length bs) ts (newPayload o bs ids ts) =
-      record {
-        kind-held = manifest-held;
-        flags-held = flags-none;
-        flags-fit = omega arith;
-        id-above = omega arith;
-        id-fits = i;
-        timestamp-fits = h;
-        length-fits = omega arith;
-      } in
       rw (y .state)
       (exact-append reader segment-format {ms = newManifest o bs ids ts ∷ []} (bodies-exact ts h (startOf o) (nextId o) bs t i (omega arith))
       (rw (afters-bodies ts (startOf o) (nextId o) bs)
-      (segment-exact (record { at = bodiesEnd (startOf o) bs; least = nextId o + length bs }) manifestKind 0 (nextId o + length bs) ts (newPayload o bs ids ts) f)))
+      (made-exact (record { at = bodiesEnd (startOf o) bs; least = nextId o + length bs }) (nextId o + length bs) ts (newPayload o bs ids ts) (omega arith) i h (omega arith))))

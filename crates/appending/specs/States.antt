@@ -83,14 +83,6 @@ spared ls ss ids r h =
     all-places (Spared ids) [] ls
     (λ ps l qs e m. no-manifest ps l qs ss 0 (subst (Rising 0) e r) (subst (λ (x : List Link). retirable x ss (l .id) ≡ true) e (member-retirable ls ss ids (l .id) h m)))
 
-state-zero : (l : Link) → stateHeld l 0 ≡ true
-unfolding stateHeld
-state-zero l = pick (eqb (l .kind) manifestKind)
-  where
-    pick : (t : Bool) → cond t (eqb 0 0) (leb 0 1) ≡ true
-    pick true = refl
-    pick false = refl
-
 states-retired : (ls : List Link) (ss ids : List ℕ) → length ss ≡ length ls → statesHeld ls ss ≡ true → All (Spared ids) ls → statesHeld ls (retired ls ss ids) ≡ true
 unfolding statesHeld stateHeld retired All
 states-retired [] ss ids n h t = refl
@@ -102,20 +94,6 @@ states-retired (l ∷ ls) (s ∷ ss) ids n h t =
     pick : (t′ : Bool) → member (l .id) ids ≡ t′ → stateHeld l s ≡ true → stateHeld l (cond t′ 1 s) && true ≡ true
     pick true m q = rw (t .0 m)
     pick false m q = rw q
-
-pub states-append : (xs ys : List Link) (ss ts : List ℕ) → length ss ≡ length xs → statesHeld xs ss ≡ true → statesHeld ys ts ≡ true → statesHeld (xs ++ ys) (ss ++ ts) ≡ true
-unfolding statesHeld
-states-append [] ys [] ts n h k = k
-states-append [] ys (s ∷ ss) ts n h k = absurd (omega arith)
-states-append (x ∷ xs) ys [] ts n h k = absurd (omega arith)
-states-append (x ∷ xs) ys (s ∷ ss) ts n h k =
-    let a = and-split (stateHeld x s) (statesHeld xs ss) h in
-    rw (a .0) (states-append xs ys ss ts (omega arith) (a .1) k)
-
-pub states-live : (ls : List Link) → statesHeld ls (replicate (length ls) 0) ≡ true
-unfolding statesHeld
-states-live [] = refl
-states-live (l ∷ ls) = rw (state-zero l) (states-live ls)
 
 pub retired-length : (ls : List Link) (ss ids : List ℕ) → length (retired ls ss ids) ≡ length ls
 unfolding retired

@@ -5,7 +5,6 @@ use mathlib.Core.Path.{_≡_, refl, ap, _∙_}
 use mathlib.Core.Bool.{true, false, _&&_}
 use mathlib.Core.List.{List, [], _∷_}
 use native.Mathlib.Omega.{arith}
-use lib.Bits.{bitAnd, and-le-r}
 use lib.Dec.{eqb, leb}
 use lib.ListN.{length, take, drop, getD, length-append}
 use Rattle.octets.specs.le.Le.{leAt}
@@ -18,11 +17,12 @@ use Rattle.answers.specs.limits.Limits.{maxBodies, maxBatch}
 use Rattle.segment.specs.chain.Chain.{All}
 use Rattle.segment.specs.chain.Laws.{Exact, done, afters, exact-append}
 use Rattle.segment.specs.Header.{Link, reader, size, typeHeld, flagsHeld}
-use Rattle.segment.specs.Laws.{segment-format}
+use Rattle.segment.specs.Laws.{segment-format, flags-fit}
 use Rattle.segment.specs.Written.{segment, linkOf}
-use Rattle.segment.specs.WrittenLaws.{linkOf-size, segment-length}
+use Rattle.segment.specs.WrittenLaws.{linkOf-size, segment-length, hash-length}
 use Rattle.segment.specs.Readback.{Fields, segment-exact}
 use Rattle.manifest.specs.Payload.{manifestKind, confirmed}
+use Rattle.manifest.specs.PayloadLaws.{Hashed}
 use Rattle.batch.specs.Form.{Body, lineHeld, lineLength, lineSize, linesHeld, bodyKindHeld, bodyCount, bodiesAt, batchHeld, bodiesFrom, bodiesOf}
 use Rattle.appending.specs.Append.{bodySize, bodyLinks, bodyBytes, bodiesEnd}
 
@@ -70,13 +70,6 @@ unfolding bodyLinks
 bodyLinks-length at id ts [] = refl
 bodyLinks-length at id ts (b ∷ bs) = ap suc (bodyLinks-length (at + bodySize b) (id + 1) ts bs)
 
-flags-fit : (g : ℕ) → flagsHeld g ≡ true → g < 2 ^ 16
-unfolding flagsHeld
-flags-fit g e =
-    let p : bitAnd g 0x03C8 ≡ g = eqb-true (bitAnd g 0x03C8) g e in
-    let q = and-le-r g 0x03C8 in
-    omega arith
-
 module _ (ts : ℕ) where
   pub bodies-exact : ts < 2 ^ 64 → (at id : ℕ) (bs : List Body) → All BodyHeld bs → id + length bs < 2 ^ 64 → bodiesEnd at bs < 2 ^ 64
       → Exact reader (record { at = at; least = id }) (bodyLinks at id ts bs) (bodyBytes id ts bs)
@@ -121,3 +114,9 @@ module _ (ts : ℕ) where
   unfolding All bodyLinks confirmed linkOf
   bodies-never at id [] t = tt
   bodies-never at id (b ∷ bs) t = ((λ q. rw (t .0 .no-manifest)), bodies-never (at + bodySize b) (id + 1) bs (t .1))
+
+-- each has the sixteen bytes of its hash
+pub bodies-hashed : (at id ts : ℕ) (bs : List Body) → All Hashed (bodyLinks at id ts bs)
+unfolding All bodyLinks linkOf
+bodies-hashed at id ts [] = tt
+bodies-hashed at id ts (b ∷ bs) = (hash-length (b .payload), bodies-hashed (at + bodySize b) (id + 1) ts bs)

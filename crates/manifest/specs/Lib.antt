@@ -9,3 +9,5 @@ pub mod OpeningLaws
 pub mod EntryOut
 pub mod OpenOut
 pub mod SizedLaws
+pub mod PayloadLaws
+pub mod Made

@@ -8,7 +8,7 @@ use native.Mathlib.Omega.{arith}
 use lib.ListN.{length, take, drop, getD, length-drop, length-map}
 use lib.Seq.{drop-drop, take-add, length-take-le, getD-drop}
 use Rattle.octets.specs.le.Le.{leAt, leBytes, Bytes}
-use Rattle.octets.specs.le.Laws.{bytes-drop, bytes-take, leBytes-leOf}
+use Rattle.octets.specs.le.Laws.{bytes-drop, le-back}
 use Rattle.segment.specs.chain.Chain.{All, walk}
 use Rattle.segment.specs.chain.Laws.{all-map}
 use Rattle.segment.specs.chain.Walk.{walk-cons}
@@ -26,12 +26,6 @@ pub record Lying (f : List ℕ) (l : Link) : Type 0 where
   pub reads : linkAt state (drop (l .offset) f) ≡ some l
 
 -- ---- one entry
-
--- a number's bytes are those that spell it
-le-back : (s : List ℕ) (k a : ℕ) → Bytes s → a + k ≤ length s → leBytes k (leAt k s a) ≡ take k (drop a s)
-le-back s k a t h =
-    let n : length (take k (drop a s)) ≡ k = length-take-le k (drop a s) (omega (arith, length-drop a s)) in
-    ap (λ (m : ℕ). leBytes m (leAt k s a)) (sym n) ∙ leBytes-leOf (take k (drop a s)) (bytes-take k (drop a s) (bytes-drop a s t))
 
 -- an entry by the fields of a link
 abbrev entryWith : ℕ → ℕ → ℕ → List ℕ → ℕ → ℕ → ℕ → List ℕ

@@ -24,6 +24,7 @@ use Rattle.segment.specs.index.Offsets.{most, linkNo, Stored, stored-has, store
 use Rattle.segment.specs.index.Numbered.{Numbered, numbered, numbered-at, number-of}
 use Rattle.manifest.specs.SizedLaws.{statesBy-at}
 use Rattle.manifest.specs.Payload.{manifestKind, entrySize, statesHeld, confirmed, manifestPayload, payloadLength, statesIn, entriesEnd, statePlace}
+use Rattle.manifest.specs.PayloadLaws.{confirmed-parts}
 use Rattle.manifest.specs.Opening.{opened, states, foundCase, openedCase}
 use Rattle.manifest.specs.OpeningLaws.{at-long, at-within}
 use Rattle.manifest.specs.At.{length-payloadAt, record-ge}
@@ -110,14 +111,6 @@ module _ (f : List ℕ) where
 
 -- ---- the entry with an index
 
--- a confirmed manifest's payload is the one of the links before it
-confirmed-payload : (b : List Link) (l : Link) → confirmed b l ≡ true
-    → l .payload ≡ manifestPayload b (statesIn (length b) (drop 8 (l .payload))) (l .offset) (l .id)
-unfolding confirmed
-confirmed-payload b l e =
-    same-equal (l .payload) (manifestPayload b (statesIn (length b) (drop 8 (l .payload))) (l .offset) (l .id))
-    (and-split (eqb (l .kind) manifestKind && leb (length b) maxEntries && whole l && statesHeld b (statesIn (length b) (drop 8 (l .payload)))) _ e .1)
-
 -- the offsets of the links that can matter stand at the front of a list
 abbrev pub Indexed : List ℕ → List ℕ → Type 0
 Indexed f offsets = Stored f offsets (length (take most (chain f)))
@@ -148,21 +141,14 @@ module _ (f offsets : List ℕ) (offset count : ℕ) (t : Bytes f) (s : Indexed 
       let ss : List ℕ = statesIn (length (m .found .before)) (drop 8 (m .found .link .payload)) in
       let y = chain-lying f b (l ∷ m .stands .rest) (m .stands .split) in
       let p : length (l .payload) ≡ payloadLength (length (offsetsOf b)) =
-      ap length (confirmed-payload b l (m .stands .holds) ∙ sym (payload-lying f b ss (l .offset) (l .id) t y))
+      ap length (confirmed-parts b l (m .stands .holds) .payload-is ∙ sym (payload-lying f b ss (l .offset) (l .id) t y))
       ∙ length-payloadAt f (offsetsOf b) ss (l .offset) (l .id) (lying-inside f b y) in
       let q : length (offsetsOf b) ≡ length b = length-map b (λ l. l .offset) in
       let r = record-ge (length (offsetsOf b)) in
       omega (arith, m .count-is)
 
   at-most : count ≤ maxEntries
-  at-most = go (decLe count maxEntries)
-    where
-      go : Dec (count ≤ maxEntries) → count ≤ maxEntries
-      go (yes q) = q
-      go (no q) =
-          let z = lt-of-not-le q in
-          let w : true ≡ false = sym (m .stands .holds) ∙ bounded b l (omega (arith, m .count-is)) in
-          absurd (let z : _≡_ {A = ℕ} 0 1 = cc in omega arith)
+  at-most = omega (arith, confirmed-parts b l (m .stands .holds) .at-most, m .count-is)
 
   numbers : (length b < length (chain f)) × ((b ≡ take (length b) (chain f)) × (l ≡ linkNo f (length b)))
   numbers = number-of f b (m .stands .rest) l (m .stands .split)

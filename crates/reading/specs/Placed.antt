@@ -52,7 +52,7 @@ module _ (P : Link → Type 0) where
   all-cond true l ls p t = (p, t)
   all-cond false l ls p t = t
 
-  all-live : (ls : List Link) (ss : List ℕ) → All P ls → All P (liveOf ls ss)
+  pub all-live : (ls : List Link) (ss : List ℕ) → All P ls → All P (liveOf ls ss)
   unfolding liveOf All
   all-live [] ss t = tt
   all-live (l ∷ ls) ss t = all-cond (eqb (getD ss 0 0) 0) l (liveOf ls (drop 1 ss)) (t .0) (all-live ls (drop 1 ss) (t .1))
@@ -67,12 +67,12 @@ module _ (P : Link → Type 0) where
   all-reverse [] t = tt
   all-reverse (l ∷ ls) t = rw (reverse-cons l ls) (all-append P (reverse ls) (l ∷ []) (all-reverse ls (t .1)) (t .0, tt))
 
-  all-at : (ls : List Link) (l : Link) (ms : List Link) → All P (ls ++ l ∷ ms) → P l
+  pub all-at : (ls : List Link) (l : Link) (ms : List Link) → All P (ls ++ l ∷ ms) → P l
   unfolding All
   all-at [] l ms t = t .0
   all-at (x ∷ ls) l ms t = all-at ls l ms (t .1)
 
-  all-with : (id : ℕ) (ls : List Link) (l : Link) → All P ls → withId id ls ≡ some l → P l
+  pub all-with : (id : ℕ) (ls : List Link) (l : Link) → All P ls → withId id ls ≡ some l → P l
   unfolding withId All
   all-with id [] l t e = absurd (let z : _≡_ {A = ℕ} 0 1 = cc in omega arith)
   all-with id (x ∷ xs) l t e = pick (eqb (x .id) id) e (all-with id xs l (t .1))

@@ -152,3 +152,8 @@ rising-from (l ∷ ls) st f e =
 
 pub chain-rising : (f : List ℕ) → Rising 0 (chain f)
 chain-rising f = rising-from (chain f) start f refl
+
+pub rising-front : (xs ys : List Link) (least : ℕ) → Rising least (xs ++ ys) → Rising least xs
+unfolding Rising
+rising-front [] ys least r = tt
+rising-front (x ∷ xs) ys least r = (r .0, rising-front xs ys (x .id + 1) (r .1))

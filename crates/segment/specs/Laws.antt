@@ -4,12 +4,13 @@ use mathlib.Core.Path.{_≡_, sym, ap, _∙_}
 use mathlib.Core.Bool.{true}
 use mathlib.Core.Option.{some, Option·some-injective}
 use mathlib.Core.List.{List, [], _∷_}
-use Prim.Native.Nat.{ℕ, _+_, _%_, _≤_, _<_}
+use Prim.Native.Nat.{ℕ, _+_, _%_, _^_, _≤_, _<_}
 use native.Mathlib.Omega.{arith}
+use lib.Bits.{bitAnd, and-le-r}
 use lib.Dec.{lit<}
 use lib.ListN.{length, take, drop, length-drop}
 use lib.Seq.{take-take, length-take-le, getD-take}
-use borrow.Author.Tests.{leb-true}
+use borrow.Author.Tests.{leb-true, eqb-true}
 use Rattle.octets.specs.Round.{round64}
 use Rattle.octets.specs.RoundLaws.{round64-ge, round64-mod}
 use Rattle.octets.specs.Parts.{part-front}
@@ -21,7 +22,7 @@ use Rattle.segment.specs.chain.Walk.{walk-each}
 use Rattle.segment.specs.chain.Search.{Aligned}
 use Rattle.segment.specs.Tests.{all-at}
 use Rattle.octets.specs.ZeroLaws.{and-split}
-use Rattle.segment.specs.Header.{Link, State, reader, read, linkAt, linkIn, sizeAt, size, after, sound, headSound, headTests, lengthIn, idIn, kindIn, flagsIn, timestampIn, hashIn}
+use Rattle.segment.specs.Header.{Link, State, reader, read, linkAt, linkIn, sizeAt, size, after, sound, headSound, headTests, flagsHeld, lengthIn, idIn, kindIn, flagsIn, timestampIn, hashIn}
 
 at-least : (h : List ℕ) → 64 ≤ sizeAt h
 unfolding sizeAt
@@ -31,7 +32,7 @@ read-is : (st : State) (x : List ℕ) (l : Link) → read st x ≡ some l → li
 unfolding read
 read-is st x l e = Option·some-injective _ _ (cond-some (sound (st .least) x) _ l e .1)
 
-read-sound : (st : State) (x : List ℕ) (l : Link) → read st x ≡ some l → sound (st .least) x ≡ true
+pub read-sound : (st : State) (x : List ℕ) (l : Link) → read st x ≡ some l → sound (st .least) x ≡ true
 unfolding read
 read-sound st x l e = cond-some (sound (st .least) x) _ l e .0
 
@@ -85,6 +86,8 @@ pub record LinkRead (st : State) (s : List ℕ) (l : Link) : Type 0 where
   pub length-is : length (l .payload) ≡ lengthIn s
   pub link-is : l ≡ linkFront (st .at) s
   pub id-above : st .least ≤ l .id
+  pub reads : read st (take (size l) s) ≡ some l
+  pub head-sound : headSound (st .least) (take 64 s) ≡ true
 
 -- a header's numbers are those of the bytes that it begins
 pub number-front : (k i : ℕ) (s : List ℕ) → i + k ≤ 64 → leAt k (take 64 s) i ≡ leAt k s i
@@ -129,4 +132,15 @@ lies st s l e =
       length-is = n;
       link-is = is;
       id-above = rw is (rw (number-front 8 0x08 s (omega arith)) at (id-held (st .least) (take 64 s) b));
+      reads = p .reads;
+      head-sound = b;
     }
+
+-- ---- flags fit their two bytes
+
+pub flags-fit : (g : ℕ) → flagsHeld g ≡ true → g < 2 ^ 16
+unfolding flagsHeld
+flags-fit g e =
+    let p : bitAnd g 0x03C8 ≡ g = eqb-true (bitAnd g 0x03C8) g e in
+    let q = and-le-r g 0x03C8 in
+    omega arith

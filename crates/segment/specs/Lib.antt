@@ -4,6 +4,7 @@ pub mod Chained
 pub mod Header
 pub mod Laws
 pub mod Readback
+pub mod Rewritten
 pub mod Search
 pub mod Step
 pub mod Tests

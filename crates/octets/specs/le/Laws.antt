@@ -7,8 +7,8 @@ use native.Mathlib.Nat.{div-one, div-div-eq-div-mul, div-lt-iff-lt-mul, pow-succ
 use native.Mathlib.Numerals.{add-one}
 use native.Mathlib.Omega.{arith}
 use lib.Dec.{lit<}
-use lib.ListN.{length, take, drop, getD, set}
-use lib.Seq.{drop-cons, take-at, getD-drop}
+use lib.ListN.{length, take, drop, getD, set, length-drop}
+use lib.Seq.{drop-cons, take-at, getD-drop, length-take-le}
 use Rattle.octets.specs.Over.{over}
 use Rattle.octets.specs.OverLaws.{over-none, over-turn, over-long}
 use Rattle.octets.specs.le.Le.{leOf, leAt, leBytes, Bytes}
@@ -71,6 +71,18 @@ leBytes-leOf (b ∷ s) t =
     let r : (b + 256 * leOf s) % 256 ≡ b = omega arith in
     let q : (b + 256 * leOf s) / 256 ≡ leOf s = omega arith in
     rw (r, q) (ap (λ (x : List ℕ). b ∷ x) (leBytes-leOf s (bytes-tail b s t)))
+
+-- the bytes of a number that stands at a place are those that spell it
+pub le-back : (s : List ℕ) (k a : ℕ) → Bytes s → a + k ≤ length s → leBytes k (leAt k s a) ≡ take k (drop a s)
+le-back s k a t h =
+    let n : length (take k (drop a s)) ≡ k = length-take-le k (drop a s) (omega (arith, length-drop a s)) in
+    ap (λ (m : ℕ). leBytes m (leAt k s a)) (sym n) ∙ leBytes-leOf (take k (drop a s)) (bytes-take k (drop a s) (bytes-drop a s t))
+
+-- a number of k bytes is below 256 to the power k
+pub le-fits : (s : List ℕ) (k a : ℕ) → Bytes s → a + k ≤ length s → leAt k s a < 256 ^ k
+le-fits s k a t h =
+    let n : length (take k (drop a s)) ≡ k = length-take-le k (drop a s) (omega (arith, length-drop a s)) in
+    rw n at (leOf-lt (take k (drop a s)) (bytes-take k (drop a s) (bytes-drop a s t)))
 
 -- a number that stands at the front of bytes, whatever comes after it
 pub leAt-front : (k n : ℕ) (r : List ℕ) → n < 256 ^ k → leAt k (leBytes k n ++ r) 0 ≡ n

@@ -22,6 +22,12 @@ unfolding All
 all-map P Q f [] t = tt
 all-map P Q f (x ∷ xs) t = (f x (t .0), all-map P Q f xs (t .1))
 
+-- two properties at once
+pub all-both : {X : Type 0} (P Q : X → Type 0) (xs : List X) → All P xs → All Q xs → All (λ x. P x × Q x) xs
+unfolding All
+all-both P Q [] t u = tt
+all-both P Q (x ∷ xs) t u = ((t .0, u .0), all-both P Q xs (t .1) (u .1))
+
 module _ {S L : Type 0} (R : Reader S L) where
   open Reader R using (linkAt, size, after)
 
