@@ -2,3 +2,4 @@
 pub mod Copies
 pub mod CopyLaws
 pub mod FileLaws
+pub mod Links

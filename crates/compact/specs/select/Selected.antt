@@ -6,8 +6,9 @@ use mathlib.Core.List.{List, []}
 use lib.Dec.{eqb}
 use lib.ListN.{length}
 use Rattle.segment.specs.chain.Chain.{Found}
-use Rattle.segment.specs.Header.{Link}
-use Rattle.compacting.specs.Compact.{copied, segmentsOf, damaged}
+use Rattle.segment.specs.chain.Laws.{sizes}
+use Rattle.segment.specs.Header.{Link, reader}
+use Rattle.compacting.specs.Compact.{copied, damaged}
 use Rattle.compact.specs.declared.select.Selected.{Selected}
 use Rattle.compact.specs.declared.select.Selected.the-variants.{Of, Damaged}
 
@@ -17,4 +18,4 @@ copiedOf none = []
 copiedOf (some r) = copied r
 
 unfoldable pub selectedOf : List Link → Selected
-selectedOf ls = cond (eqb (damaged ls) 0) (Of (length ls) (length (segmentsOf ls))) Damaged
+selectedOf ls = cond (eqb (damaged ls) 0) (Of (length ls) (sizes reader ls)) Damaged
