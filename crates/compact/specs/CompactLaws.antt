@@ -89,9 +89,9 @@ module _ (f : List ℕ) (offset count : ℕ) (m : ManifestAt f offset count) whe
       → (compactedBy r x ≡ compactCase f buf) × (exit ≡ compactBuffer f buf)
   unfolding compactCase compactFound compactBuffer bufferFound
   by-writer buf x exit p = (
-      ap (compactedBy r) (p .0) ∙ sym (at-within (Refused 1) (compactFound buf) f (m .within) ∙ ap (compactFound buf) (m .opens)),
-      p .1 ∙ sym (at-within buf (bufferFound buf) f (m .within) ∙ ap (bufferFound buf) (m .opens)),
-    )
+    ap (compactedBy r) (p .0) ∙ sym (at-within (Refused 1) (compactFound buf) f (m .within) ∙ ap (compactFound buf) (m .opens)),
+    p .1 ∙ sym (at-within buf (bufferFound buf) f (m .within) ∙ ap (bufferFound buf) (m .opens)),
+  )
 
   pub compact-damaged : (buf : List ℕ) → selectedOf (copiedOf (opened f)) ≡ Damaged → (Refused 4 ≡ compactCase f buf) × (buf ≡ compactBuffer f buf)
   unfolding selectedOf compactedBy

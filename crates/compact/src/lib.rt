@@ -8,8 +8,8 @@ ghost use lib.ListN.{length};
 ghost use Rattle.segment.specs.index.Offsets.{most};
 ghost use Rattle.opening.specs.Indexed.{ManifestAt, Indexed};
 ghost use Rattle.compacting.specs.Compact.{compactCase, compactBuffer};
-use compacting::Compacted;
 use crate::select::Selected;
+use compacting::Compacted;
 use opening::FileManifest;
 
 // The same of a file whose manifest is found: 4, then 9.
@@ -33,7 +33,9 @@ fn compact_from(
             let end = at
                 + 64
                 + octets::round_up(
-                    octets::round_up(manifest::fields::RECORD_HEAD + manifest::fields::ENTRY_SIZE * n)
+                    octets::round_up(
+                        manifest::fields::RECORD_HEAD + manifest::fields::ENTRY_SIZE * n,
+                    )
                         + manifest::fields::ROOT_SIZE,
                 );
             if end > buf.len() {

@@ -11,10 +11,7 @@ ghost use Rattle.compact.specs.select.Selected.{copiedOf, selectedOf};
 
 // How many segments are copied, and how many bytes they take; or that one of them is not whole.
 pub enum Selected {
-    Of {
-        count: usize,
-        end: usize,
-    },
+    Of { count: usize, end: usize },
     Damaged,
 }
 

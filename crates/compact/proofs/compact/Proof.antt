@@ -23,4 +23,5 @@ pub compact-spec : {M : Type 1} → statement M
 compact-spec =
     tie.close
     (tie.spec
-    (search needs) (search needs) (search needs) (search needs) (search needs) compact-from-requires returns (search needs) (search needs))
+    (search needs) (search needs) (search needs) (search needs) (search needs) compact-from-requires returns (search needs)
+    (λ c. c .before .before .before .compact-from .ensures))

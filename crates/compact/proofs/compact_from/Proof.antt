@@ -92,8 +92,7 @@ put-file-requires c κs =
     let en = fresh-end _ _ (bytes k) (w .opens) (choice k .all-whole) _ (offsets-are k) in
     let pl : round64 (payloadLength (length (take (n k) (g k .select .last .1 .0)))) ≡ round64 (payloadLength (n k)) =
     ap (λ (j : ℕ). round64 (payloadLength j)) (count-is k) in
-    let pr = payload-round (n k) _ _ (r .before .round-up .ensures) (r .round-up2 .ensures) in
-    (
+    let pr = payload-round (n k) _ _ (r .before .round-up .ensures) (r .round-up2 .ensures) in (
       (omega (arith, count-is k, small k), st),
       ((choice k .at-is ∙ sym en, small k .1 .0), omega (arith, pl, pr)),
     )

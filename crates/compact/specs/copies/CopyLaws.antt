@@ -140,8 +140,7 @@ unfolding over
 copy-last f buf₀ buf os₀ os at i st h =
     let e : i ≡ length os₀ = omega (arith, st .at-most) in
     let t : take i os₀ ≡ os₀ = ap (λ (n : ℕ). take n os₀) e ∙ take-length os₀ in
-    let d : drop (0 + length (placesAt f 0 os₀)) os₀ ≡ [] = drop-of-length-le os₀ {i = 0 + length (placesAt f 0 os₀)} (omega (arith, places-length f 0 os₀)) in
-    (
+    let d : drop (0 + length (placesAt f 0 os₀)) os₀ ≡ [] = drop-of-length-le os₀ {i = 0 + length (placesAt f 0 os₀)} (omega (arith, places-length f 0 os₀)) in (
       st .laid ∙ ap (λ (l : List ℕ). over buf₀ 0 (copiesAt f l)) t,
       st .stored ∙ ap (λ (l : List ℕ). over os₀ 0 (placesAt f 0 l)) t ∙ ap (λ (l : List ℕ). placesAt f 0 os₀ ++ l) d ∙ append-nil (placesAt f 0 os₀),
     )

@@ -72,8 +72,7 @@ module _ (f : List ℕ) (offset count : ℕ) (m : ManifestAt f offset count) whe
         let e : passed (m .found) i ≡ copiedOf (opened f) = passed-all (m .found) i (omega (arith, m .count-is)) ∙ sym copied-is in
         let c : n ≡ length (copiedOf (opened f)) = sym (st .count-is) ∙ ap length e in
         let d : damaged (copiedOf (opened f)) ≡ 0 = ap damaged (sym e) ∙ st .all-whole in
-        let s : end ≡ sizes reader (copiedOf (opened f)) = sym (st .end-is) ∙ ap (sizes reader) e in
-        (
+        let s : end ≡ sizes reader (copiedOf (opened f)) = sym (st .end-is) ∙ ap (sizes reader) e in (
           rw (c, s, d),
           λ z. ap (λ (k : ℕ). take k os) (sym c) ∙ st .stored ∙ ap offsetsOf e,
         )
