@@ -34,6 +34,7 @@ use Rattle.compacting.specs.Fresh.{copied-few, fresh-length, never-later}
 use Rattle.compacting.specs.declared.Compacted.the-variants.{At, Refused}
 use Rattle.compact.specs.declared.select.Selected.the-variants.{Of, Damaged}
 use Rattle.compact.specs.select.Selected.{copiedOf, selectedOf}
+use Rattle.compact.specs.select.Passed.{copied-of}
 use Rattle.compact.specs.copies.Copies.{fileAt}
 use Rattle.compact.specs.copies.Links.{fresh-file}
 
@@ -63,8 +64,7 @@ module _ (f : List ℕ) (offset count : ℕ) (m : ManifestAt f offset count) whe
   r = m .found
 
   copied-is : copiedOf (opened f) ≡ copied (m .found)
-  unfolding copiedOf
-  copied-is = ap copiedOf (m .opens)
+  copied-is = copied-of f r (m .opens)
 
   pub chosen : (n at : ℕ) → selectedOf (copiedOf (opened f)) ≡ Of n at → Chosen (m .found) n at
   unfolding selectedOf

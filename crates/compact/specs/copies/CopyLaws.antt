@@ -7,11 +7,10 @@ use native.Mathlib.Omega.{arith}
 use native.Mathlib.Nat.{add-zero, zero-add}
 use native.Mathlib.Numerals.{add-one}
 use lib.ListN.{length, take, drop, getD, set, length-append, length-drop, length-set, take-append-drop, drop-of-length-le}
-use lib.Seq.{take-suc, take-length, length-take-le, getD-drop}
+use lib.Seq.{take-suc, take-length, length-take-le}
 use Rattle.octets.specs.Over.{over}
 use Rattle.octets.specs.OverLaws.{over-none, over-then, over-front, over-behind, length-over}
-use Rattle.octets.specs.Round.{round64}
-use Rattle.segment.specs.Header.{lengthAt}
+use Rattle.octets.specs.Parts.{same-at}
 use Rattle.manifest.specs.At.{Inside}
 use Rattle.compact.specs.copies.Copies.{sizeIn, Standing, copyAt, copiesAt, placesAt}
 
@@ -85,11 +84,11 @@ module _ (f buf₀ buf os₀ os : List ℕ) (at i : ℕ) (st : CopyAt f buf₀ b
   pub copy-here : getD os i 0 ≡ getD os₀ i 0
   copy-here =
       let n : 0 + length (placesAt f 0 (take i os₀)) ≡ i = omega (arith, placed) in
-      let e : drop i os ≡ drop i os₀ =
-      ap (λ (k : ℕ). drop k os) (sym n) ∙ ap (drop (0 + length (placesAt f 0 (take i os₀)))) (st .stored)
-      ∙ over-behind os₀ 0 (placesAt f 0 (take i os₀)) (omega arith) ∙ ap (λ (k : ℕ). drop k os₀) n in
-      let z : i + 0 ≡ i = omega arith in
-      ap (λ (k : ℕ). getD os k 0) (sym z) ∙ sym (getD-drop i os 0 0) ∙ ap (λ (l : List ℕ). getD l 0 0) e ∙ getD-drop i os₀ 0 0 ∙ ap (λ (k : ℕ). getD os₀ k 0) z
+      same-at os os₀ i
+      (ap (λ (k : ℕ). drop k os) (sym n)
+      ∙ ap (drop (0 + length (placesAt f 0 (take i os₀)))) (st .stored)
+      ∙ over-behind os₀ 0 (placesAt f 0 (take i os₀)) (omega arith)
+      ∙ ap (λ (k : ℕ). drop k os₀) n)
 
   pub copy-inside : getD os i 0 + sizeIn f (getD os i 0) ≤ length f
   copy-inside = rw copy-here (whole i h)
@@ -117,7 +116,6 @@ module _ (f buf₀ buf os₀ os : List ℕ) (at i : ℕ) (st : CopyAt f buf₀ b
       let s : size ≡ sizeIn f o = e ∙ ap (sizeIn f) copy-here in
       let r : at + sizeIn f o ≤ length buf = rw copy-here at copy-room in
       let c : take size (drop (getD os i 0) f) ≡ copyAt f o = rw (copy-here, s) in
-      let x : List ℕ = copiesAt f (take i os₀) in
       let laid : buf′ ≡ over buf₀ 0 (copiesAt f (take (i + 1) os₀)) =
       p ∙ ap (over buf at) c ∙ ap (λ (n : ℕ). over buf n (copyAt f o)) (sym (zero-add at))
       ∙ over-then buf₀ buf 0 (copiesAt f (take i os₀)) (copyAt f o) at (st .laid) (st .at-is) (omega (arith, st .same-length)) ∙ ap (over buf₀ 0) (sym copies) in

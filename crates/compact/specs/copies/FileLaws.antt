@@ -1,8 +1,8 @@
 -- The manifest behind the copied segments: what the buffer holds then.
 -- Assumes nothing.
-use Prim.Native.Nat.{ℕ, _+_, _≤_}
-use mathlib.Core.Path.{_≡_, sym, ap, subst, _∙_}
-use mathlib.Core.List.{List, _++_}
+use Prim.Native.Nat.{ℕ, _≤_}
+use mathlib.Core.Path.{_≡_, sym, ap, _∙_}
+use mathlib.Core.List.{List}
 use native.Mathlib.Omega.{arith}
 use native.Mathlib.Nat.{zero-add}
 use lib.ListN.{length, take, replicate}
@@ -26,7 +26,6 @@ module _ (f os buf₀ buf os′ : List ℕ) (at : ℕ) (e : buf ≡ over buf₀ 
       → exit ≡ over buf at (segment 5 0 id ts (payloadAt (take at buf) os′ (take (length os) (replicate 1024 0)) at id)) → exit ≡ over buf₀ 0 (fileAt f os at id ts)
   unfolding fileAt
   manifest-behind id ts exit h k x =
-      let payload : List ℕ = payloadAt (copiesAt f os) (placesAt f 0 os) (replicate (length os) 0) at id in
       x
       ∙ rw (front, p, zeros-front (length os) 1024 k)
       (ap (λ (m : ℕ). over buf m (segment 5 0 id ts (payloadAt (copiesAt f os) (placesAt f 0 os) (replicate (length os) 0) at id))) (sym (zero-add at))

@@ -1,12 +1,12 @@
 -- For links that lie in the file, what is copied at their offsets is their segments, and each comes to stand where the fresh file's link has it. So
 -- the file by the old one and the offsets is the fresh file.
 -- Assumes nothing.
-use Prim.Native.Nat.{ℕ, zero, suc, _+_, _≤_, _<_}
+use Prim.Native.Nat.{ℕ, zero, suc, _+_, _≤_}
 use mathlib.Core.Path.{_≡_, refl, sym, ap, ap₂, subst, _∙_}
 use mathlib.Core.Option.{some}
 use mathlib.Core.List.{List, [], _∷_, _++_, append-nil}
 use native.Mathlib.Omega.{arith}
-use lib.ListN.{length, take, drop, getD, replicate, length-drop, length-map}
+use lib.ListN.{length, take, drop, replicate, length-drop, length-map}
 use lib.Seq.{drop-drop}
 use Rattle.octets.specs.Round.{round64}
 use Rattle.octets.specs.le.Le.{leOf, Bytes}
@@ -66,9 +66,6 @@ bytes-copies f (o ∷ os) t = bytes-append (copyAt f o) (copiesAt f os) (bytes-t
 -- ---- the fresh file
 
 module _ (f : List ℕ) (r : Found Link) (t : Bytes f) (e : opened f ≡ some r) (w : damaged (copied r) ≡ 0) (os : List ℕ) (o : os ≡ offsetsOf (copied r)) where
-  abbrev ls : List Link
-  ls = copied r
-
   y : All (Lying f) (copied r)
   y = copied-lying f r t e
 

@@ -3,6 +3,7 @@
 use Prim.Native.Nat.{ℕ, _+_, _≤_, _<_}
 use mathlib.Core.Path.{_≡_, refl, sym, ap, _∙_}
 use mathlib.Core.Bool.{Bool, true, false, cond}
+use mathlib.Core.Option.{some}
 use mathlib.Core.List.{List, [], _∷_, _++_, append-nil}
 use native.Mathlib.Omega.{arith}
 use native.Mathlib.Numerals.{add-one}
@@ -15,10 +16,11 @@ use Rattle.segment.specs.chain.Laws.{sizes}
 use Rattle.segment.specs.chain.Walk.{sizes-append}
 use Rattle.segment.specs.Header.{Link, reader, size, whole, noLink}
 use Rattle.manifest.specs.Payload.{manifestKind}
-use Rattle.manifest.specs.Opening.{states}
+use Rattle.manifest.specs.Opening.{opened, states}
 use Rattle.reading.specs.Live.{liveOf, live}
 use Rattle.reading.specs.LiveLaws.{only, live-append, live-more}
 use Rattle.compacting.specs.Compact.{withoutManifests, copied, damaged}
+use Rattle.compact.specs.select.Selected.{copiedOf}
 
 -- ---- lists of links
 
@@ -52,6 +54,10 @@ damaged-stays (x ∷ xs) ms e = pick (whole x) e (damaged-stays xs ms)
     pick false q ih = refl
 
 -- ---- the entries passed
+
+pub copied-of : (f : List ℕ) (r : Found Link) → opened f ≡ some r → copiedOf (opened f) ≡ copied r
+unfolding copiedOf
+copied-of f r e = ap copiedOf e
 
 -- what is copied of a directory's first i entries
 abbrev pub passed : Found Link → ℕ → List Link

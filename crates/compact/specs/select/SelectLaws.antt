@@ -8,7 +8,8 @@ use mathlib.Core.List.{List, [], _∷_, _++_}
 use native.Mathlib.Omega.{arith}
 use native.Mathlib.Numerals.{add-one}
 use lib.ListN.{length, take, drop, getD, set, length-append, length-set}
-use lib.Seq.{take-append-le, take-suc-set, drop-set-lt, drop-drop, getD-drop}
+use lib.Seq.{take-append-le, take-suc-set, drop-set-lt, drop-drop}
+use Rattle.octets.specs.Parts.{same-at}
 use Rattle.octets.specs.Round.{round64}
 use Rattle.segment.specs.chain.Chain.{Found}
 use Rattle.segment.specs.chain.Laws.{sizes}
@@ -24,7 +25,7 @@ use Rattle.reading.specs.Live.{liveOf}
 use Rattle.compacting.specs.Compact.{withoutManifests, copied, damaged}
 use Rattle.compact.specs.declared.select.Selected.the-variants.{Of, Damaged}
 use Rattle.compact.specs.select.Selected.{copiedOf, selectedOf}
-use Rattle.compact.specs.select.Passed.{l, damaged-append, damaged-stays, passed, passed-all, behind, passed-split, passed-retired, passed-manifest, passed-here, places}
+use Rattle.compact.specs.select.Passed.{copied-of, l, damaged-append, damaged-stays, passed, passed-all, behind, passed-split, passed-retired, passed-manifest, passed-here, places}
 
 -- ---- where the loop stands
 
@@ -57,8 +58,7 @@ module _ (f : List ℕ) (offset count : ℕ) (m : ManifestAt f offset count) whe
   found-only P p x q = subst P (Option·some-injective _ _ (sym (m .opens) ∙ q)) p
 
   copied-is : copiedOf (opened f) ≡ copied (m .found)
-  unfolding copiedOf
-  copied-is = ap copiedOf (m .opens)
+  copied-is = copied-of f r (m .opens)
 
   module _ (os₀ os : List ℕ) (i n end : ℕ) (w : Selecting f os₀ os i n end) where
     abbrev st : SelectAt (m .found) os₀ os i n end
@@ -82,10 +82,7 @@ module _ (f : List ℕ) (offset count : ℕ) (m : ManifestAt f offset count) whe
       inside = omega (arith, m .count-is)
 
       here : getD os i 0 ≡ getD os₀ i 0
-      here =
-          let z : i + 0 ≡ i = omega arith in
-          ap (λ (k : ℕ). getD os k 0) (sym z) ∙ sym (getD-drop i os 0 0) ∙ ap (λ (xs : List ℕ). getD xs 0 0) (st .rest)
-          ∙ getD-drop i os₀ 0 0 ∙ ap (λ (k : ℕ). getD os₀ k 0) z
+      here = same-at os os₀ i (st .rest)
 
       -- the entry is the same by the list that was changed
       pub select-entry : EntryAt f os₀ r offset i → EntryAt f os r offset i
