@@ -9,7 +9,7 @@ ghost use Rattle.manifest.specs.At.{Inside, entryAt, entriesAt};
 ghost use Rattle.manifest.specs.Payload.{entriesEnd};
 
 // Some bytes of the file, at a place of a buffer.
-fn copy_at(buf: &mut [u8], at: usize, file: &[u8], from: usize, n: usize)
+pub fn copy_at(buf: &mut [u8], at: usize, file: &[u8], from: usize, n: usize)
     requires { ⌜ (at + n ≤ length (now buf)) × (from + n ≤ length (now file)) ⌝ }
     ensures { λ _. ⌜ now (buf .exit) ≡ over (now (buf .entry)) at (take n (drop from (now (file .entry)))) ⌝ }
 {

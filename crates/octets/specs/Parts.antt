@@ -5,8 +5,8 @@ use mathlib.Core.Path.{_≡_, refl, sym, ap, _∙_}
 use mathlib.Core.List.{List, [], _∷_, _++_, append-nil}
 use native.Mathlib.Nat.{zero-add}
 use native.Mathlib.Omega.{arith}
-use lib.ListN.{length, take, drop, replicate, length-drop, length-replicate, drop-of-length-le}
-use lib.Seq.{take-all, take-take, drop-drop, length-take-le}
+use lib.ListN.{length, take, drop, getD, replicate, length-drop, length-replicate, drop-of-length-le}
+use lib.Seq.{take-all, take-take, drop-drop, length-take-le, getD-drop}
 use borrow.Rule.Slice.PartMut.{putMid}
 use Rattle.octets.specs.Over.{over}
 use Rattle.octets.specs.OverLaws.{length-over, over-next, over-at}
@@ -14,6 +14,12 @@ use Rattle.octets.specs.OverLaws.{length-over, over-next, over-at}
 -- a part to the end
 pub tail-all : (s : List ℕ) (a : ℕ) → take (length s - a) (drop a s) ≡ drop a s
 tail-all s a = take-all (length s - a) (drop a s) (omega (arith, length-drop a s))
+
+-- lists that agree from a place on agree at it
+pub same-at : (xs ys : List ℕ) (i : ℕ) → drop i xs ≡ drop i ys → getD xs i 0 ≡ getD ys i 0
+same-at xs ys i e =
+    let z : i + 0 ≡ i = omega arith in
+    rw z at (sym (getD-drop i xs 0 0) ∙ ap (λ (s : List ℕ). getD s 0 0) e ∙ getD-drop i ys 0 0)
 
 -- a part of a front of a list is that part of the list
 pub part-front : (i k n : ℕ) (x : List ℕ) → i + k ≤ n → take k (drop i (take n x)) ≡ take k (drop i x)

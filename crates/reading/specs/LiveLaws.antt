@@ -62,19 +62,28 @@ pub order-all : (r : Found Link) → orderOf (take (length (r .before)) (r .befo
 unfolding orderOf searchOrder live
 order-all r = rw (take-length (r .before))
 
-live-append : (ls : List Link) (l : Link) (ss : List ℕ) → liveOf (ls ++ l ∷ []) ss ≡ liveOf ls ss ++ only (eqb (getD ss (length ls) 0) 0) l
+pub live-append : (ls ms : List Link) (ss : List ℕ) → liveOf (ls ++ ms) ss ≡ liveOf ls ss ++ liveOf ms (drop (length ls) ss)
 unfolding liveOf
-live-append [] l ss = refl
-live-append (x ∷ xs) l ss =
-    let e : getD (drop 1 ss) (length xs) 0 ≡ getD ss (suc (length xs)) 0 = getD-drop 1 ss (length xs) 0 ∙ ap (λ (k : ℕ). getD ss k 0) (omega arith) in
-    let ih : liveOf (xs ++ l ∷ []) (drop 1 ss) ≡ liveOf xs (drop 1 ss) ++ only (eqb (getD ss (suc (length xs)) 0) 0) l = live-append xs l (drop 1 ss) ∙ rw e in
+live-append [] ms ss = refl
+live-append (x ∷ xs) ms ss =
+    let n : 1 + length xs ≡ suc (length xs) = omega arith in
+    let e : drop (length xs) (drop 1 ss) ≡ drop (suc (length xs)) ss = drop-drop (length xs) 1 ss ∙ ap (λ (k : ℕ). drop k ss) n in
+    let ih : liveOf (xs ++ ms) (drop 1 ss) ≡ liveOf xs (drop 1 ss) ++ liveOf ms (drop (suc (length xs)) ss) = live-append xs ms (drop 1 ss) ∙ rw e in
     rw ih (pick (eqb (getD ss 0 0) 0))
   where
     pick : (t : Bool)
-        → cond t (x ∷ (liveOf xs (drop 1 ss) ++ only (eqb (getD ss (suc (length xs)) 0) 0) l)) (liveOf xs (drop 1 ss) ++ only (eqb (getD ss (suc (length xs)) 0) 0) l)
-        ≡ cond t (x ∷ liveOf xs (drop 1 ss)) (liveOf xs (drop 1 ss)) ++ only (eqb (getD ss (suc (length xs)) 0) 0) l
+        → cond t (x ∷ (liveOf xs (drop 1 ss) ++ liveOf ms (drop (suc (length xs)) ss))) (liveOf xs (drop 1 ss) ++ liveOf ms (drop (suc (length xs)) ss))
+        ≡ cond t (x ∷ liveOf xs (drop 1 ss)) (liveOf xs (drop 1 ss)) ++ liveOf ms (drop (suc (length xs)) ss)
     pick true = refl
     pick false = refl
+
+-- the live ones of one link more
+pub live-more : (ls : List Link) (ss : List ℕ) (i : ℕ) → i < length ls → liveOf (take (suc i) ls) ss ≡ liveOf (take i ls) ss ++ only (eqb (getD ss i 0) 0) (getD ls i noLink)
+unfolding liveOf
+live-more ls ss i h =
+    let n : length (take i ls) ≡ i = length-take-le i ls (omega arith) in
+    let z : i + 0 ≡ i = omega arith in
+    ap (λ (xs : List Link). liveOf xs ss) (take-suc ls i noLink h) ∙ live-append (take i ls) (getD ls i noLink ∷ []) ss ∙ rw (n, getD-drop i ss 0 0, z)
 
 vectors-append : (ls ms : List Link) → vectorsOf (ls ++ ms) ≡ vectorsOf ls ++ vectorsOf ms
 unfolding vectorsOf
@@ -89,10 +98,7 @@ module _ (ls : List Link) (ss : List ℕ) (i : ℕ) (h : i < length ls) where
   more : orderOf (take (suc i) ls) ss ≡ reverse (vectorsOf (only (eqb (getD ss i 0) 0) (getD ls i noLink))) ++ orderOf (take i ls) ss
   unfolding orderOf
   more =
-      let n : length (take i ls) ≡ i = length-take-le i ls (omega arith) in
-      let e : liveOf (take (suc i) ls) ss ≡ liveOf (take i ls) ss ++ only (eqb (getD ss i 0) 0) (getD ls i noLink) =
-      ap (λ (xs : List Link). liveOf xs ss) (take-suc ls i noLink h) ∙ live-append (take i ls) (getD ls i noLink) ss ∙ rw n in
-      rw (e, vectors-append) (reverse-append (vectorsOf (liveOf (take i ls) ss)) (vectorsOf (only (eqb (getD ss i 0) 0) (getD ls i noLink))))
+      rw (live-more ls ss i h, vectors-append) (reverse-append (vectorsOf (liveOf (take i ls) ss)) (vectorsOf (only (eqb (getD ss i 0) 0) (getD ls i noLink))))
 
   pub order-retired : (getD ss i 0 ≡ 0 → ⊥) → orderOf (take (suc i) ls) ss ≡ orderOf (take i ls) ss
   unfolding vectorsOf

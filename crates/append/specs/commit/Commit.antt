@@ -140,8 +140,3 @@ module _ (o : Option (Found Link)) (bs : List Body) (start kept m next : ℕ) (s
       let a = at-number at e in
       let x : r′ ≡ round64 (round64 (entriesEnd (newCount o bs)) + 4096) = q ∙ ap (λ (y : ℕ). round64 (y + 4096)) (p ∙ ap (λ (y : ℕ). round64 (entriesEnd y)) c) in
       omega arith
-
--- the manifest's payload, rounded up, as the code has it
-pub payload-round : (c r r′ : ℕ) → r ≡ round64 (entriesEnd c) → r′ ≡ round64 (r + 4096) → r′ ≡ round64 (payloadLength c)
-unfolding payloadLength recordBy
-payload-round c r r′ p q = q ∙ ap (λ (y : ℕ). round64 (y + 4096)) p

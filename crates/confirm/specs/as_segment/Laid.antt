@@ -12,7 +12,7 @@ use Rattle.octets.specs.Round.{round64}
 use Rattle.segment.specs.Written.{segment}
 use Rattle.segment.specs.WrittenLaws.{segment-length}
 use Rattle.manifest.specs.Sized.{recordBy}
-use Rattle.manifest.specs.Payload.{payloadLength}
+use Rattle.manifest.specs.Payload.{entriesEnd, payloadLength}
 
 pub manifest-laid : (buf y : List ℕ) (at kind flags id ts : ℕ) (part payload : List ℕ) → part ≡ payload
     → y ≡ over (take (length buf - at) (drop at buf)) 0 (segment kind flags id ts part) → at + (64 + round64 (length payload)) ≤ length buf
@@ -25,3 +25,8 @@ manifest-laid buf y at kind flags id ts part payload e p h =
 pub payload-most : (c : ℕ) → c ≤ 1024 → (payloadLength c ≤ 53312) × (round64 (payloadLength c) ≤ 53312)
 unfolding payloadLength recordBy round64
 payload-most c h = (omega arith, omega arith)
+
+-- its length, rounded up, as code that adds it up has it
+pub payload-round : (c r r′ : ℕ) → r ≡ round64 (entriesEnd c) → r′ ≡ round64 (r + 4096) → r′ ≡ round64 (payloadLength c)
+unfolding payloadLength recordBy
+payload-round c r r′ p q = q ∙ ap (λ (y : ℕ). round64 (y + 4096)) p
