@@ -20,7 +20,7 @@ use Rattle.appending.specs.States.{retired-length}
 use Rattle.appending.specs.Written.{BodyHeld, bodyLinks-length}
 use Rattle.compacting.specs.Compact.{isManifest, withoutManifests, copied, movedTo}
 use Rattle.compacting.specs.Promise.{unplaced}
-use Rattle.compacting.specs.Copied.{live-all, without-none}
+use Rattle.compacting.specs.Copied.{live-all, without-none, without-append}
 
 -- those of some links whose ids are not in a list
 unfoldable pub stay : List ℕ → List Link → List Link
@@ -70,16 +70,6 @@ live-append (x ∷ xs) ys [] ts n = absurd (omega arith)
 live-append (x ∷ xs) ys (s ∷ ss) ts n = rw (live-append xs ys ss ts (omega arith)) (pick (eqb s 0))
   where
     pick : (b : Bool) → cond b (x ∷ (liveOf xs ss ++ liveOf ys ts)) (liveOf xs ss ++ liveOf ys ts) ≡ cond b (x ∷ liveOf xs ss) (liveOf xs ss) ++ liveOf ys ts
-    pick true = refl
-    pick false = refl
-
-without-append : (xs ys : List Link) → withoutManifests (xs ++ ys) ≡ withoutManifests xs ++ withoutManifests ys
-unfolding withoutManifests
-without-append [] ys = refl
-without-append (x ∷ xs) ys = rw (without-append xs ys) (pick (isManifest x))
-  where
-    pick : (b : Bool) → cond b (withoutManifests xs ++ withoutManifests ys) (x ∷ (withoutManifests xs ++ withoutManifests ys))
-        ≡ cond b (withoutManifests xs) (x ∷ withoutManifests xs) ++ withoutManifests ys
     pick true = refl
     pick false = refl
 

@@ -48,6 +48,16 @@ none-manifest (l ∷ ls) = pick (isManifest l) refl (none-manifest ls)
     pick true e ih = ih
     pick false e ih = (e, ih)
 
+pub without-append : (xs ys : List Link) → withoutManifests (xs ++ ys) ≡ withoutManifests xs ++ withoutManifests ys
+unfolding withoutManifests
+without-append [] ys = refl
+without-append (x ∷ xs) ys = rw (without-append xs ys) (pick (isManifest x))
+  where
+    pick : (b : Bool) → cond b (withoutManifests xs ++ withoutManifests ys) (x ∷ (withoutManifests xs ++ withoutManifests ys))
+        ≡ cond b (withoutManifests xs) (x ∷ withoutManifests xs) ++ withoutManifests ys
+    pick true = refl
+    pick false = refl
+
 -- a list that has none stays as it is
 pub without-none : (ls : List Link) → All (λ l. isManifest l ≡ false) ls → withoutManifests ls ≡ ls
 unfolding withoutManifests All

@@ -5,19 +5,23 @@ use std::collections::{BTreeMap, BTreeSet};
 use std::fs;
 use std::path::Path;
 
-/// The public calls by their files, with the functions where a file has others; and the theorems.
+/// The public calls by their files, with the functions where a file has others; the theorems about the rules' calls and the claim; and those
+/// of the later requests.
 const CALLS: [(&str, &[&str]); 4] = [
     ("crates/rvf_c/src", &[]),
     ("crates/lookup/src/payload.rt", &["payload"]),
     ("crates/lookup/src/vector.rt", &["component"]),
     ("crates/append/src/lib.rt", &["append"]),
 ];
-const THEOREMS: [(&str, &str, &str); 4] = [
+type Theorem = (&'static str, &'static str, &'static str);
+const THEOREMS: [Theorem; 4] = [
     ("claim", "Theorem", "demand3"),
     ("claim", "Theorem", "closed-run"),
     ("reading", "ReadFrom", "vector-read"),
     ("worked", "Proved", "table"),
 ];
+const OF_REQUESTS: [Theorem; 3] =
+    [("compacting", "Theorem", "compacted"), ("claim", "LaterHolds", "later-appends"), ("claim", "LaterHolds", "starts-anew")];
 
 /// A file that a reviewer reads, by the lines to believe in it; and the laws that it holds besides.
 pub struct Reached {
@@ -96,6 +100,15 @@ fn names(declaration: &Declaration) -> Vec<String> {
 
 /// Every file with a definition that is reached, in the order of their paths.
 pub fn reached(root: &Path) -> Vec<Reached> {
+    reached_from(root, &[&THEOREMS[..], &OF_REQUESTS[..]].concat())
+}
+
+/// The same without the theorems that the later requests brought.
+pub fn reached_by_the_rules(root: &Path) -> Vec<Reached> {
+    reached_from(root, &THEOREMS)
+}
+
+fn reached_from(root: &Path, theorems: &[Theorem]) -> Vec<Reached> {
     let all = read_all(root);
     let mut by_name = BTreeMap::new();
     for (module, source) in &all {
@@ -113,7 +126,7 @@ pub fn reached(root: &Path) -> Vec<Reached> {
             search.add_words(&words(&contracts(&text, functions)), None, &source);
         }
     }
-    for (name, module, theorem) in THEOREMS {
+    for (name, module, theorem) in theorems.iter().copied() {
         let home = (name.to_string(), module.to_string());
         assert!(search.by_name.contains_key(&(home.clone(), theorem.to_string())), "{name}/{module} has no {theorem}");
         search.add(&home, theorem);

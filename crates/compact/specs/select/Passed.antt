@@ -19,21 +19,11 @@ use Rattle.manifest.specs.Payload.{manifestKind}
 use Rattle.manifest.specs.Opening.{opened, states}
 use Rattle.reading.specs.Live.{liveOf, live}
 use Rattle.reading.specs.LiveLaws.{only, live-append, live-more}
-use Rattle.compacting.specs.Compact.{withoutManifests, copied, damaged}
+use Rattle.compacting.specs.Compact.{isManifest, withoutManifests, copied, damaged}
+use Rattle.compacting.specs.Copied.{without-append}
 use Rattle.compact.specs.select.Selected.{copiedOf}
 
 -- ---- lists of links
-
-without-append : (ls ms : List Link) → withoutManifests (ls ++ ms) ≡ withoutManifests ls ++ withoutManifests ms
-unfolding withoutManifests
-without-append [] ms = refl
-without-append (x ∷ xs) ms = rw (without-append xs ms) (pick (eqb (x .kind) manifestKind))
-  where
-    pick : (t : Bool)
-        → cond t (withoutManifests xs ++ withoutManifests ms) (x ∷ (withoutManifests xs ++ withoutManifests ms))
-        ≡ cond t (withoutManifests xs) (x ∷ withoutManifests xs) ++ withoutManifests ms
-    pick true = refl
-    pick false = refl
 
 pub damaged-append : (ls ms : List Link) → damaged ls ≡ 0 → damaged (ls ++ ms) ≡ damaged ms
 unfolding damaged
@@ -93,11 +83,11 @@ module _ (r : Found Link) (i : ℕ) (h : i < length (r .before)) where
   passed-retired n = more ∙ rw (ne-eqb (getD (states r) i 0) 0 n) (append-nil (passed r i))
 
   pub passed-manifest : getD (states r) i 0 ≡ 0 → l .kind ≡ manifestKind → passed r (i + 1) ≡ passed r i
-  unfolding withoutManifests
+  unfolding withoutManifests isManifest
   passed-manifest z k = more ∙ rw (eq-eqb (getD (states r) i 0) 0 z, eq-eqb (l .kind) manifestKind k) (append-nil (passed r i))
 
   pub passed-here : getD (states r) i 0 ≡ 0 → (l .kind ≡ manifestKind → ⊥) → passed r (i + 1) ≡ passed r i ++ l ∷ []
-  unfolding withoutManifests
+  unfolding withoutManifests isManifest
   passed-here z n = more ∙ rw (eq-eqb (getD (states r) i 0) 0 z, ne-eqb (l .kind) manifestKind n)
 
   -- where the entry's link ends
