@@ -51,6 +51,11 @@ impl Plan {
         &self.buffer[self.start..self.appended.end as usize]
     }
 
+    /// The whole file after the append.
+    pub fn file(&self) -> &[u8] {
+        &self.buffer[..self.appended.end as usize]
+    }
+
     /// The ids of the new segments, without the manifest's.
     fn ids(&self) -> std::ops::Range<u64> {
         self.appended.id - self.segments..self.appended.id
