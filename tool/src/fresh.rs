@@ -1,7 +1,7 @@
 //! A compaction made in memory by the library, and what is said of it.
 
 use crate::json::Json;
-use crate::room::{back, kept, Room};
+use crate::room::{entries, kept, Room};
 use rvf::{Compacted, Entry, Refusal};
 use std::path::{Path, PathBuf};
 
@@ -44,7 +44,7 @@ impl Fresh {
             compacted,
             end,
             behind: file.len() - end,
-            back: back(&manifest, &entries),
+            back: Room { entries: manifest.count - compacted.count, bytes: manifest.end - compacted.end },
             retired: ids(&|entry| entry.retired),
             manifests: ids(&|entry| !kept(entry) && !entry.retired),
         })
@@ -65,11 +65,10 @@ impl Fresh {
 
     pub fn text(&self, path: &Path, done: &Done) -> String {
         let (file, Compacted { end, id, count }) = (path.display(), self.compacted);
-        let has = format!("manifest {id}; {count} {}, {end} bytes", if count == 1 { "entry" } else { "entries" });
-        let Room { entries, bytes } = self.back;
-        let back = format!("{bytes} bytes and {entries} {}", if entries == 1 { "entry" } else { "entries" });
+        let has = format!("manifest {id}; {}, {end} bytes", entries(count));
+        let back = self.back.shown();
         // What is left out and what becomes of it; nothing where nothing is.
-        let without = |becomes: &str| match entries {
+        let without = |becomes: &str| match self.back.entries {
             0 => String::new(),
             _ => format!(": {} {becomes}", self.without()),
         };

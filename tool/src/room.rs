@@ -34,9 +34,18 @@ impl Room {
         format!("rvf: {}: {}; {next}\n", path.display(), self.left())
     }
 
+    pub fn shown(&self) -> String {
+        format!("{} bytes and {}", self.bytes, entries(self.entries))
+    }
+
     pub fn json(&self) -> Json {
         Json::Object(vec![("entries", Json::Number(self.entries)), ("bytes", Json::Number(self.bytes))])
     }
+}
+
+/// A number of entries in words.
+pub fn entries(count: u64) -> String {
+    format!("{count} {}", if count == 1 { "entry" } else { "entries" })
 }
 
 /// Whether a compaction copies the segment of an entry.
@@ -73,9 +82,7 @@ pub fn advice(path: &Path, back: Room) -> String {
             "compacting brings nothing back: retire what is not needed ('rvf retire {file} SEGMENT-ID') and compact \
              then, or start a new file with --create"
         ),
-        Room { entries, bytes } => {
-            format!("compact it: 'rvf compact {file}' brings {bytes} bytes and {entries} entries back")
-        }
+        Room { .. } => format!("compact it: 'rvf compact {file}' brings {} back", back.shown()),
     }
 }
 
