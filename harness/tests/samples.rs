@@ -158,8 +158,8 @@ fn flipped_bits_lose_batches_that_can_be_told() {
         let behind = rvf::lost_behind(&file).expect("within the limit").expect("batches are lost");
         assert_eq!((behind.manifests.len(), behind.newest().map(|newest| (newest.id, newest.offset))), (lost, Some((6, 9_344))));
     }
-    let whole = ["worked.rvf", "clean.rvf", "torn.rvf", "damaged.rvf", "compacted.rvf", "nested.rvf", "restarts.rvf", "kinds.rvf"];
-    for name in whole {
+    let flipped = cases.map(|(name, ..)| name);
+    for name in NAMES.into_iter().filter(|name| !flipped.contains(name)) {
         assert_eq!(rvf::lost_behind(&sample(name)), Ok(None), "{name}");
     }
 }

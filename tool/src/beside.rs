@@ -61,8 +61,8 @@ impl Beside {
                     Failure::Io(format!("{}: cannot be created: there is no such folder", name.display()))
                 }
                 _ => {
-                    let beside = format!("the file to be written beside it, {}, cannot be created", temporary.display());
-                    Failure::broken(name, &beside, &error)
+                    let what = format!("the file to be written beside it, {}", temporary.display());
+                    Failure::broken(name, &format!("{what}, cannot be created"), &error)
                 }
             })?;
             // Somebody else's file behind a link of this name is not to be emptied.

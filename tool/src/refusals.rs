@@ -48,7 +48,7 @@ pub fn compacting(path: &Path, file: &[u8], refusal: Refusal) -> Failure {
     };
     let more = match more.len() {
         0 => String::new(),
-        count => format!("; so are {count} more: 'rvf check {}' names them", quoted(path)),
+        count => format!("; {count} more are damaged: 'rvf check {}' names them", quoted(path)),
     };
     let (append, retire) = mending(path, damaged.iter().map(|link| link.id));
     let why = format!("{}{more}", bad(first, refusal));

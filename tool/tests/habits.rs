@@ -119,7 +119,8 @@ fn room_that_runs_out() {
     assert!(json.json().contains(",\"left\":{\"entries\":203,\"bytes\":"), "{}", json.json());
     let compacted = rvf(&["compact", text(&place.file)]);
     assert_eq!((compacted.status, compacted.stderr.as_str()), (0, ""));
-    assert!(compacted.text().contains(&format!("\n{promised} came back: 1 retired segment and 410 older manifests are gone\n")), "{}", compacted.text());
+    let back = format!("\n{promised} came back: 1 retired segment and 410 older manifests are gone\n");
+    assert!(compacted.text().contains(&back), "{}", compacted.text());
     assert!(!rvf(&["check", text(&place.file)]).text().contains("room: "));
 }
 

@@ -4,7 +4,10 @@
 
 mod common;
 
-use common::{answers, appended, bytes_of, compacted, end_of, names_beside, program, put, rvf, sample, small_batch, text, Place};
+use common::{
+    alone, answers, appended, bytes_of, compacted, end_of, names_beside, program, put, rvf, sample, small_batch, text,
+    Place,
+};
 use rvf::Body;
 use std::os::unix::process::ExitStatusExt;
 use std::process::{Command, Output, Stdio};
@@ -165,8 +168,7 @@ struct Compaction {
 
 impl Compaction {
     fn new(name: &str, old: Vec<u8>) -> Compaction {
-        let place = Place::new(name, &old, b"");
-        std::fs::remove_file(&place.batch).expect("it is there");
+        let place = alone(name, &old);
         let fresh = compacted(&old).expect("accepted");
         assert!(fresh != old);
         Compaction { place, old, fresh }

@@ -11,14 +11,18 @@ fn place(name: &str) -> Place {
     Place::new(name, &sample("clean.rvf"), &small_batch())
 }
 
+fn busy(place: &Place) -> String {
+    let words = "another append or compaction is at work on it; try again, or add --wait SECONDS";
+    format!("rvf: {}: {words}\n", place.file.display())
+}
+
 #[test]
 fn of_two_appends_at_once_one_is_turned_away() {
     let place = place("locked");
     let held = std::fs::File::open(&place.file).expect("it opens");
     held.lock().expect("it is locked");
     let ran = place.append(&["--time", "9"]);
-    let said = format!("rvf: {}: another append or compaction is at work on it; try again, or add --wait SECONDS\n", place.file.display());
-    assert_eq!((ran.status, ran.stderr), (75, said));
+    assert_eq!((ran.status, ran.stderr), (75, busy(&place)));
     assert!(bytes_of(&place.file) == sample("clean.rvf"));
     // Reading goes on meanwhile.
     assert_eq!(rvf(&["list", text(&place.file)]).status, 0);
@@ -106,8 +110,7 @@ fn a_compaction_keeps_to_the_lock() {
     let held = std::fs::File::open(&place.file).expect("it opens");
     held.lock().expect("it is locked");
     let ran = rvf(&["compact", file]);
-    let said = format!("rvf: {file}: another append or compaction is at work on it; try again, or add --wait SECONDS\n");
-    assert_eq!((ran.status, ran.stderr), (75, said));
+    assert_eq!((ran.status, ran.stderr), (75, busy(&place)));
     // What does not write the file needs no lock.
     assert_eq!(rvf(&["compact", file, "--dry-run"]).status, 0);
     assert_eq!(rvf(&["compact", file, "--to", &format!("{file}-new")]).status, 0);
@@ -178,7 +181,7 @@ fn appends_and_compactions_at_once() {
     assert_eq!(rvf(&["compact", text(&place.file)]).status, 0);
     // All batches are there: two segments each, behind the three of the clean sample that are live.
     let ids: Vec<u64> = rvf::entries(&bytes_of(&place.file)).expect("it opens").iter().map(|entry| entry.id).collect();
-    let wanted: Vec<u64> = [2, 3, 5].into_iter().chain((0..APPENDS as u64).flat_map(|n| [7 + 3 * n, 8 + 3 * n])).collect();
-    assert_eq!(ids, wanted);
+    let of_batches = (0..APPENDS as u64).flat_map(|number| [7 + 3 * number, 8 + 3 * number]);
+    assert_eq!(ids, [2, 3, 5].into_iter().chain(of_batches).collect::<Vec<u64>>());
     assert_eq!(names_beside(&place.file), ["batch", "f.rvf"]);
 }

@@ -81,7 +81,7 @@ pub fn store(rng: &mut Rng, wish: Wish) -> Vec<u8> {
 #[cfg(test)]
 mod tests {
     use super::*;
-    use crate::reference::{compact::compact, manifest};
+    use crate::reference::{compact::compact, manifest, segment};
 
     /// The generator must reach what the comparisons are about.
     #[test]
@@ -96,7 +96,7 @@ mod tests {
             };
             let entries = manifest::directory(&bytes, &opened).chunks_exact(manifest::ENTRY).map(manifest::Entry::read);
             let entries: Vec<manifest::Entry> = entries.collect();
-            let whole = |entry: &manifest::Entry| crate::reference::segment::hash_equal(&entry.hash, entry.payload(&bytes));
+            let whole = |entry: &manifest::Entry| segment::hash_equal(&entry.hash, entry.payload(&bytes));
             shapes[0] += usize::from(entries.iter().any(|entry| entry.state == 1));
             shapes[1] += usize::from(entries.iter().any(|entry| entry.state == 1 && !whole(entry)));
             shapes[2] += usize::from(entries.iter().any(|entry| entry.kind == MANIFEST && !whole(entry)));

@@ -117,6 +117,17 @@ impl Place {
     }
 }
 
+/// A folder with a file in it and nothing else.
+pub fn alone(name: &str, file: &[u8]) -> Place {
+    let place = Place::new(name, file, b"");
+    std::fs::remove_file(&place.batch).expect("it is there");
+    place
+}
+
+pub fn compact(place: &Place, words: &[&str]) -> Ran {
+    rvf(&[&["compact", text(&place.file)], words].concat())
+}
+
 /// A small generator with a fixed seed, so that a failure comes back.
 pub struct Random(u64);
 
