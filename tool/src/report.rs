@@ -108,7 +108,7 @@ fn value(checked: &Checked) -> Json {
         ("remarks", Json::Number(checked.count(Weight::Remark) as u64)),
     ];
     if let Some((room, back)) = checked.room {
-        members.extend([("left", room.json()), ("compaction", back.json())]);
+        members.extend([("left", room.json()), ("back", back.json())]);
     }
     Json::Object(members)
 }

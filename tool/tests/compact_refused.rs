@@ -123,7 +123,9 @@ fn a_file_that_changes_under_the_lock() {
     put(&place.file, &more);
     assert!(held.must_be_unchanged().is_err());
     // It is looked at last before the rename.
-    let mut beside = Beside::open(&place.file, Duration::ZERO).ok().expect("there is room beside");
+    let Ok(mut beside) = Beside::open(&place.file, Duration::ZERO) else {
+        panic!("a file can be made beside it");
+    };
     let ready = || held.must_be_unchanged().map_err(std::io::Error::other);
     assert!(matches!(beside.place(&sample("compacted.rvf"), ready), Err(Unplaced::Before(_))));
     assert!(bytes_of(&place.file) == more);

@@ -167,7 +167,7 @@ fn appends_and_compactions_at_once() {
                 let now = answers(&file);
                 // Positions change with the first append and not again, so it is the ids that tell the states apart.
                 let id = rvf::open(&file).expect("a whole file").id as usize;
-                assert!((id - 6) % 3 == 0 && now.vectors() == states[(id - 6) / 3].vectors(), "manifest {id}");
+                assert!((id - 6).is_multiple_of(3) && now.vectors() == states[(id - 6) / 3].vectors(), "manifest {id}");
                 reads += 1;
             }
             reads
