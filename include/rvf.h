@@ -96,6 +96,16 @@ uint32_t rvf_component(const uint8_t *file, size_t len, uint64_t id, uint64_t in
 uint32_t rvf_append(uint8_t *buffer, size_t len, uint64_t n, const uint8_t *batch, size_t batch_len, const uint64_t *retire,
                     size_t retire_len, uint64_t timestamp, uint64_t out[3]);
 
+/* A fresh file at the front of the buffer: the live segments of the file but those of type 0x05, in the directory's
+ * order, each as it is, headers unchanged; then one manifest with the id and timestamp of the file's own, flags 0.
+ * Vectors, components and the payloads of kept segments answer as before (payloads from other places), other ids
+ * refuse 3, and later appends get the ids that they would have got. What lies behind the file's manifest is not copied.
+ * out: the new end, which is the fresh file's length, the manifest's id, the number of its entries. Bytes from the new
+ * end on stay; as many bytes as the file's manifest ends at are always room enough. file and buffer must not overlap.
+ * Keep the old file until the new one is stored whole: the front of a fresh file has no manifest. Refuses 1, 2, then 4
+ * where a segment that would be copied does not agree with its hash, then 9. */
+uint32_t rvf_compact(const uint8_t *file, size_t len, uint8_t *buffer, size_t buffer_len, uint64_t out[3]);
+
 /* What the lister prints about a file of at most 65,536 bytes, as ASCII at the front of the buffer: a heading, a line for each
  * entry of the directory, the manifest's line, its end and the boundaries tried; or the line `refused n`, 1 for a longer file and
  * 2 where there is no manifest. out: the text's length. Refuses 9; 102,400 bytes are room for every list. */

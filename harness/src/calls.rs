@@ -2,7 +2,7 @@
 //! answer is a number, 0 or the refusal, and values go to `out`. The library and the
 //! reference both have this shape, so every comparison is written once.
 
-use crate::reference::{append, crc, idmap, lister, manifest, refusal, store, varint, vecseg};
+use crate::reference::{append, compact, crc, idmap, lister, manifest, refusal, store, varint, vecseg};
 
 /// The layers in the order in which the library gets them.
 #[derive(Clone, Copy, Debug, PartialEq, Eq, PartialOrd, Ord)]
@@ -18,6 +18,8 @@ pub enum Layer {
     Append,
     /// The lister's text.
     List,
+    /// A fresh file of the live segments.
+    Compact,
 }
 
 /// What a call that the implementation lacks would answer; no comparison makes it.
@@ -78,6 +80,9 @@ pub trait Calls {
         absent()
     }
     fn list(&self, file: &[u8], buffer: &mut [u8], out: &mut [u64; 1]) -> u32 {
+        absent()
+    }
+    fn compact(&self, file: &[u8], buffer: &mut [u8], out: &mut [u64; 3]) -> u32 {
         absent()
     }
 }
@@ -188,6 +193,10 @@ impl Calls for Reference {
         let text = lister::list(file);
         let front = buffer.get_mut(..text.len()).ok_or(refusal::NO_ROOM);
         put(front.map(|front| front.copy_from_slice(text.as_bytes())).map(|()| [text.len() as u64]), out)
+    }
+
+    fn compact(&self, file: &[u8], buffer: &mut [u8], out: &mut [u64; 3]) -> u32 {
+        put(compact::compact(file, buffer).map(|(end, id, count)| [end as u64, id, count as u64]), out)
     }
 }
 

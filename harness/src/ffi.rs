@@ -27,6 +27,7 @@ impl Calls for Library {
             Layer::Reading => cfg!(feature = "reading"),
             Layer::Append => cfg!(feature = "append"),
             Layer::List => cfg!(feature = "list"),
+            Layer::Compact => cfg!(feature = "compact"),
         }
     }
 
@@ -122,5 +123,10 @@ impl Calls for Library {
     #[cfg(feature = "list")]
     fn list(&self, file: &[u8], buffer: &mut [u8], out: &mut [u64; 1]) -> u32 {
         unsafe { rvf_list(file.as_ptr(), file.len(), buffer.as_mut_ptr(), buffer.len(), out) }
+    }
+
+    #[cfg(feature = "compact")]
+    fn compact(&self, file: &[u8], buffer: &mut [u8], out: &mut [u64; 3]) -> u32 {
+        unsafe { rvf_compact(file.as_ptr(), file.len(), buffer.as_mut_ptr(), buffer.len(), out) }
     }
 }

@@ -5,6 +5,7 @@ pub mod batches;
 pub mod files;
 pub mod maps;
 pub mod payloads;
+pub mod stores;
 
 /// The xorshift64* generator.
 #[derive(Clone)]

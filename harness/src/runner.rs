@@ -141,6 +141,10 @@ pub fn list(calls: &dyn Calls, file: &[u8], room: usize) -> Outcome<1> {
     writing(room, |out| out[0], |buffer, out| calls.list(file, buffer, out))
 }
 
+pub fn compact(calls: &dyn Calls, file: &[u8], room: usize) -> Outcome<3> {
+    writing(room, |out| out[0], |buffer, out| calls.compact(file, buffer, out))
+}
+
 /// Appends in place to `buffer`. A refusal must leave it as it was; what an accepted
 /// call may change is between the old file's manifest end (`start`) and the new end.
 pub fn append(

@@ -1,6 +1,7 @@
 //! The vector files: one case a line, words separated by one space, the answer behind
-//! `=`. A `file NAME HEX` line names bytes for the lines after it. `-` is an empty
-//! byte string or list.
+//! `=`. A `file NAME HEX` line names bytes for the lines after it, an `edit NAME BASE LENGTH
+//! FILL PATCHES` line bytes made from those of an earlier one. `-` is an empty byte string or
+//! list.
 
 use crate::calls::{Calls, Layer, VecInput};
 use crate::reference::{limits, manifest};
@@ -25,8 +26,13 @@ pub fn run(text: &str, calls: &dyn Calls) -> Summary {
     for (index, line) in text.lines().enumerate() {
         let (question, wanted) = line.split_once(" = ").unwrap_or((line, ""));
         let words: Vec<&str> = question.split(' ').collect();
-        if words[0] == "file" {
-            files.insert(words[1], bytes(words[2]));
+        let named = match words[0] {
+            "file" => Some(bytes(words[2])),
+            "edit" => Some(edited(&words, &files)),
+            _ => None,
+        };
+        if let Some(bytes) = named {
+            files.insert(words[1], bytes);
             continue;
         }
         match answer(&words, &files, calls) {
@@ -44,15 +50,33 @@ pub fn run(text: &str, calls: &dyn Calls) -> Summary {
     summary
 }
 
+/// The bytes of an `edit` line: the front of the base, filled up to the length, and patches
+/// `AT:HEX` put over them in their order.
+fn edited(words: &[&str], files: &HashMap<&str, Vec<u8>>) -> Vec<u8> {
+    let (base, length, fill) = (words[2], number(words[3]) as usize, bytes(words[4])[0]);
+    let mut made = vec![fill; length];
+    if base != "-" {
+        let kept = files[base].len().min(length);
+        made[..kept].copy_from_slice(&files[base][..kept]);
+    }
+    for patch in words[5].split(',').filter(|patch| *patch != "-") {
+        let (at, patch) = patch.split_once(':').expect("a patch is AT:HEX");
+        let patch = bytes(patch);
+        made[number(at) as usize..][..patch.len()].copy_from_slice(&patch);
+    }
+    made
+}
+
 /// The layer whose call a kind of line makes.
 pub fn layer(kind: &str) -> Layer {
     match kind {
-        "idmap_read" | "idmap_write" => Layer::Leaves,
+        "crc32c" | "varint_read" | "varint_write" | "idmap_read" | "idmap_write" => Layer::Leaves,
         "vec_check" | "vec_write" => Layer::Vec,
         "open" | "entry" => Layer::Open,
         "payload" | "vector" | "component" => Layer::Reading,
         "append" => Layer::Append,
         "list" => Layer::List,
+        "compact" => Layer::Compact,
         other => panic!("a line of unknown kind: {other}"),
     }
 }
@@ -65,6 +89,11 @@ fn answer(words: &[&str], files: &HashMap<&str, Vec<u8>>, calls: &dyn Calls) -> 
     let n = |at: usize| number(words[at]);
     let file = || &files[words[1]];
     Some(match words[0] {
+        "crc32c" => calls.crc32c(&bytes(words[1])).to_string(),
+        "varint_read" => shown(&runner::varint_read(calls, &bytes(words[1])), |out, _| spaced(out)),
+        "varint_write" => {
+            shown(&runner::varint_write(calls, n(1) as usize, n(2)), |_, written| hex(written))
+        }
         "vec_check" => calls.vec_check(&bytes(words[1])).to_string(),
         "idmap_read" => {
             let outcome = runner::idmap_read(calls, &bytes(words[1]), n(2), n(3) as usize);
@@ -107,6 +136,9 @@ fn answer(words: &[&str], files: &HashMap<&str, Vec<u8>>, calls: &dyn Calls) -> 
             let outcome = runner::list(calls, file(), limits::LIST_ROOM);
             outcome.fault.map_or_else(|| hex(&outcome.written), |fault| format!("fault: {fault}"))
         }
+        "compact" => shown(&runner::compact(calls, file(), n(2) as usize), |out, written| {
+            format!("{} {}", spaced(out), hex(written))
+        }),
         _ => {
             let mut buffer = file().clone();
             let start = start_of(&buffer, n(2));
@@ -175,6 +207,17 @@ mod tests {
     fn hex_goes_both_ways() {
         assert_eq!((hex(&[]), bytes("-")), ("-".into(), vec![]));
         assert_eq!((hex(&[0, 0x1F, 0xA0]), bytes("001fa0")), ("001fa0".into(), vec![0, 0x1F, 0xA0]));
+    }
+
+    #[test]
+    fn edits_of_earlier_bytes() {
+        let files = HashMap::from([("A", vec![1, 2, 3, 4])]);
+        let made = |line: &str| edited(&line.split(' ').collect::<Vec<_>>(), &files);
+        assert_eq!(made("edit B A 6 a5 -"), [1, 2, 3, 4, 0xA5, 0xA5]);
+        assert_eq!(made("edit B A 2 00 -"), [1, 2]);
+        // Patches lie over fill and base, a later one over an earlier one.
+        assert_eq!(made("edit B - 5 52 0:0102,4:ff,1:0304"), [1, 3, 4, 0x52, 0xFF]);
+        assert_eq!(made("edit B - 0 00 -"), []);
     }
 
     #[test]

@@ -88,6 +88,7 @@ fn stored_cases() {
         ("clean", sample("clean.rvf")),
         ("torn", sample("torn.rvf")),
         ("damaged", sample("damaged.rvf")),
+        ("compacted", sample("compacted.rvf")),
         ("nested", sample("nested.rvf")),
         ("restarts", sample("restarts.rvf")),
         ("kinds", sample("kinds.rvf")),

@@ -5,11 +5,12 @@ use rvf_harness::calls::{Calls, Reference};
 use std::path::{Path, PathBuf};
 use std::process::Command;
 
-const NAMES: [&str; 10] = [
+const NAMES: [&str; 11] = [
     "worked.rvf",
     "clean.rvf",
     "torn.rvf",
     "damaged.rvf",
+    "compacted.rvf",
     "nested.rvf",
     "restarts.rvf",
     "kinds.rvf",
@@ -89,6 +90,26 @@ fn damaged_refuses_and_does_not_answer_an_older_position() {
     assert_eq!(directory(&damaged), directory(&clean));
 }
 
+/// The clean file had three batches and a retired segment; the compacted one has what is live, and
+/// goes on with the same ids.
+#[test]
+fn compacted_has_the_live_segments_and_one_manifest() {
+    let (clean, compacted) = (sample("clean.rvf"), sample("compacted.rvf"));
+    assert_eq!(directory(&compacted), [(2, 1, false), (3, 7, false), (5, 1, false)]);
+    assert_eq!(rvf::open(&compacted).map(|manifest| (manifest.id, manifest.end)), Ok((6, compacted.len() as u64)));
+    assert_eq!((clean.len(), compacted.len()), (13_824, 4_864));
+    for id in [7, 21, 30, 31] {
+        assert_eq!(position(&compacted, id), position(&clean, id));
+    }
+    assert_eq!(rvf::payload(&compacted, 3), rvf::payload(&clean, 3));
+    assert_eq!([0, 1, 4, 6].map(|id| rvf::payload(&compacted, id)), [Err(Refusal::NotLive); 4]);
+    let next = [&clean, &compacted].map(|file| {
+        let mut buffer = [&file[..], &[0; 9_000]].concat();
+        rvf::append(&mut buffer, file.len(), &rvf::batch(&[]), &[2], 9).map(|appended| appended.id)
+    });
+    assert_eq!(next, [Ok(7), Ok(7)]);
+}
+
 #[test]
 fn nested_answers_from_the_outer_file_alone() {
     let (clean, nested) = (sample("clean.rvf"), sample("nested.rvf"));
@@ -137,7 +158,8 @@ fn flipped_bits_lose_batches_that_can_be_told() {
         let behind = rvf::lost_behind(&file).expect("within the limit").expect("batches are lost");
         assert_eq!((behind.manifests.len(), behind.newest().map(|newest| (newest.id, newest.offset))), (lost, Some((6, 9_344))));
     }
-    for name in ["worked.rvf", "clean.rvf", "torn.rvf", "damaged.rvf", "nested.rvf", "restarts.rvf", "kinds.rvf"] {
+    let flipped = cases.map(|(name, ..)| name);
+    for name in NAMES.into_iter().filter(|name| !flipped.contains(name)) {
         assert_eq!(rvf::lost_behind(&sample(name)), Ok(None), "{name}");
     }
 }

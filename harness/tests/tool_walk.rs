@@ -4,10 +4,13 @@
 //! of an older manifest, or where batches are lost.
 
 use rvf_harness::gen::batches::{vector_file, vector_ids};
+use rvf_harness::gen::stores::{store, Wish};
 use rvf_harness::gen::{damage, files, Rng};
-use rvf_harness::reference::{manifest, segment, store};
+use rvf_harness::reference::compact::compact;
+use rvf_harness::reference::{manifest, segment, store as reading};
 use rvf_tool::check::{check, Weight};
 use rvf_tool::manifests::doubt;
+use rvf_tool::room::{back, Room};
 use rvf_tool::walk::{walk, Stop};
 
 /// The links, the place where the chain stops, and which manifests are confirmed.
@@ -33,7 +36,7 @@ fn same_walk(file: &[u8]) {
 /// An id that no segment holds, so that a search for it goes through all of them.
 fn searched_in_vain(file: &[u8]) -> Option<u32> {
     let mut buffer = [0; 4_096];
-    let each = (0..u64::MAX).map(|step| store::vector(file, u64::MAX / 2 - step, &mut buffer));
+    let each = (0..u64::MAX).map(|step| reading::vector(file, u64::MAX / 2 - step, &mut buffer));
     each.filter_map(Result::err).next()
 }
 
@@ -44,7 +47,7 @@ fn refused_payloads(file: &[u8]) -> Vec<u64> {
     };
     let entries = manifest::directory(file, &opened).chunks_exact(manifest::ENTRY).map(manifest::Entry::read);
     let segments = entries.filter(|entry| entry.kind != segment::MANIFEST).map(|entry| entry.id);
-    segments.filter(|&id| store::payload(file, id) == Err(4)).collect()
+    segments.filter(|&id| reading::payload(file, id) == Err(4)).collect()
 }
 
 /// What the check says, against what the calls do. Returns the number of a search.
@@ -66,7 +69,7 @@ fn same_faults(rng: &mut Rng, file: &[u8]) -> u32 {
     // Without a fault no call refuses for damage, whatever it is told to find.
     if faults.is_empty() {
         for id in vector_ids(rng, 3) {
-            assert!(matches!(store::vector(file, id, &mut [0; 4_096]), Ok(_) | Err(8)));
+            assert!(matches!(reading::vector(file, id, &mut [0; 4_096]), Ok(_) | Err(8)));
         }
     }
     search
@@ -151,4 +154,23 @@ fn more_links_than_a_directory_holds() {
             file = with;
         }
     }
+}
+
+/// The room that the tool says a compaction brings back is what one brings back.
+#[test]
+fn the_room_that_comes_back() {
+    let mut rng = Rng::new(0xBAC4);
+    let mut compared = 0;
+    for _ in 0..1_000 {
+        let tail = rng.once_in(2);
+        let file = store(&mut rng, Wish { damaged_live: false, tail });
+        let (Ok(manifest), Ok((end, _, count))) = (rvf::open(&file), compact(&file, &mut vec![0; file.len()])) else {
+            continue;
+        };
+        let entries = rvf::entries(&file).expect("it opens");
+        let wanted = Room { entries: manifest.count - count as u64, bytes: manifest.end - end as u64 };
+        assert_eq!(back(&manifest, &entries), wanted);
+        compared += 1;
+    }
+    assert!(compared > 500, "{compared}");
 }

@@ -1,6 +1,6 @@
-//! Runs the vector files: the subset in the repository always, the whole set where it
-//! stands beside the checkout. Every line goes to the reference; every line whose call
-//! the library has goes to the library too.
+//! Runs the vector files: the subset in the repository always, the whole sets where they
+//! stand beside the checkout, that of document 01 and that of the newest request. Every line
+//! goes to the reference; every line whose call the library has goes to the library too.
 
 use rvf_harness::calls::{Calls, Reference};
 #[cfg(feature = "linked")]
@@ -8,6 +8,7 @@ use rvf_harness::ffi::Library;
 use rvf_harness::vectors::{self, Summary};
 use std::path::Path;
 
+/// The kinds of lines of document 01.
 const KINDS: [&str; 11] = [
     "append",
     "component",
@@ -21,6 +22,11 @@ const KINDS: [&str; 11] = [
     "vec_write",
     "vector",
 ];
+/// Those that came with document 02.
+const LATER: [&str; 4] = ["compact", "crc32c", "varint_read", "varint_write"];
+/// The set of the newest request, and that of document 01, which goes on to hold.
+const NEWEST: &str = "../../shared/vectors/02-L01-s11.txt";
+const FIRST: &str = "../../shared/vectors/01.txt";
 
 fn read(path: &str) -> Option<String> {
     let path = Path::new(env!("CARGO_MANIFEST_DIR")).join(path);
@@ -40,17 +46,17 @@ fn run(name: &str, text: &str, calls: &dyn Calls) -> Summary {
     summary
 }
 
-fn run_all(name: &str, text: &str) {
+fn run_all(name: &str, text: &str, later: &[&str]) {
     let reference = run(name, text, &Reference);
     assert_eq!(reference.skipped, 0);
-    for kind in KINDS {
+    for kind in KINDS.iter().chain(later).copied() {
         assert!(reference.run.contains_key(kind), "{name} has no line of the kind {kind}");
     }
     #[cfg(feature = "linked")]
     {
         // Every line whose layer is linked must have run, and no other.
         let library = run(name, text, &Library);
-        for kind in KINDS {
+        for kind in KINDS.iter().chain(later).copied() {
             let wanted = if Library.has(vectors::layer(kind)) { reference.run.get(kind) } else { None };
             assert_eq!(library.run.get(kind), wanted, "{name}: lines of {kind} against the library");
         }
@@ -59,7 +65,7 @@ fn run_all(name: &str, text: &str) {
 
 #[test]
 fn subset_in_the_repository() {
-    run_all("subset", &read("vectors/subset.txt").expect("the subset is part of the repository"));
+    run_all("subset", &read("vectors/subset.txt").expect("the subset is part of the repository"), &LATER);
 }
 
 /// The subset shows every answer number that a line of its kind can have in the set.
@@ -72,22 +78,27 @@ fn subset_has_every_kind_of_answer() {
         let numbers = lines.filter_map(|line| line.split(" = ").nth(1)?.split(' ').next()?.parse::<u32>().ok());
         numbers.collect::<std::collections::BTreeSet<_>>().into_iter().collect::<Vec<_>>()
     };
-    assert_eq!(answers("append"), [0, 2, 5, 6, 9, 10, 11]);
+    assert_eq!(answers("append"), [0, 1, 2, 5, 6, 7, 9, 10, 11, 12, 13]);
+    assert_eq!(answers("compact"), [0, 1, 2, 4, 9]);
     assert_eq!(answers("component"), [0, 2, 4, 5, 6, 7, 8]);
     assert_eq!(answers("vector"), [0, 2, 4, 5, 6, 7, 8, 9]);
     assert_eq!(answers("payload"), [0, 2, 3, 4]);
-    assert_eq!(answers("open"), [0, 2]);
-    assert_eq!(answers("entry"), [0]);
+    assert_eq!(answers("open"), [0, 1, 2]);
+    assert_eq!(answers("entry"), [0, 2, 255]);
     assert_eq!(answers("vec_check"), [0, 5, 6, 7]);
     assert_eq!(answers("vec_write"), [0, 9, 14]);
     assert_eq!(answers("idmap_read"), [0, 5, 9]);
     assert_eq!(answers("idmap_write"), [0, 9, 14]);
+    assert_eq!(answers("varint_read"), [0, 5]);
+    assert_eq!(answers("varint_write"), [0, 9]);
 }
 
 #[test]
-fn whole_set_where_it_exists() {
-    match read("../../shared/vectors/01.txt") {
-        Some(text) => run_all("whole set", &text),
-        None => println!("no whole set beside this checkout"),
+fn whole_sets_where_they_exist() {
+    for (path, later) in [(FIRST, &[][..]), (NEWEST, &LATER)] {
+        match read(path) {
+            Some(text) => run_all(path, &text, later),
+            None => println!("no {path} beside this checkout"),
+        }
     }
 }

@@ -5,17 +5,17 @@ use crate::append_refusals::Attempt;
 use crate::args::{Append, Batch, Reading};
 use crate::commit::commit;
 use crate::failure::{Failure, Refused};
-use crate::files::{flush_folder, must_be_regular, read_source, read_store, read_whole, write_new};
+use crate::files::{must_be_regular, read_source};
 use crate::first::{put, Put};
-use crate::lock::{lock, still_named};
+use crate::held::Held;
 use crate::lost::loss;
 use crate::plan::{Done, Plan};
+use crate::room::frees;
 use crate::text::{self, Wrong, TEXT_LIMIT};
 use crate::Answer;
-use rvf::{Body, Refusal, BATCH_LIMIT, FILE_LIMIT};
-use std::fs::{self, File, OpenOptions};
+use rvf::{Body, Refusal, BATCH_LIMIT};
+use std::fs;
 use std::io::{ErrorKind, Read};
-use std::path::{Path, PathBuf};
 use std::time::{SystemTime, UNIX_EPOCH};
 
 pub fn run(request: &Append, json: bool, stdin: &mut dyn Read) -> Result<Answer, Failure> {
@@ -30,41 +30,36 @@ pub fn run(request: &Append, json: bool, stdin: &mut dyn Read) -> Result<Answer,
             break done;
         }
     };
-    let room = plan.room().map_or(String::new(), |room| room.words(path));
+    let room = plan.room().map_or(String::new(), |room| room.words(path, &frees(path, plan.file())));
     Ok(Answer::of(json, || plan.json(&done), || plan.text(path, &done)).saying(room))
 }
 
 /// Makes the append and, unless it is a dry run, writes it. None where the path names another
 /// file than it did.
 fn append(request: &Append, batch: &[u8], time: u64) -> Result<Option<(Plan, Done)>, Failure> {
-    let path = &request.file;
-    let exists = exists(request)?;
-    let mut held = if exists && !request.dry_run { Some(open(request)?) } else { None };
-    if held.as_ref().is_some_and(|file| !still_named(path, file)) {
-        return Ok(None);
-    }
-    let file = match &held {
-        Some(held) => read_whole(path, held, FILE_LIMIT)?,
-        None if exists => read_store(path)?,
-        None => Vec::new(),
+    let (path, writing) = (&request.file, request.writing);
+    let held = if exists(request)? {
+        Held::of(path, (!writing.dry_run).then_some(writing.wait))?
+    } else {
+        Some(Held::default())
     };
-    let plan = plan(request, &file, batch, time)?;
-    if request.dry_run {
+    let Some(mut held) = held else {
+        return Ok(None);
+    };
+    let plan = plan(request, &held.bytes, batch, time)?;
+    if writing.dry_run {
         return Ok(Some((plan, Done { dry_run: true, saved: None })));
     }
-    let Some(held) = held.as_mut().filter(|_| !file.is_empty()) else {
+    if held.bytes.is_empty() {
         let done = Done { dry_run: false, saved: None };
-        return Ok((put(path, plan.new_bytes(), request.wait)? == Put::Done).then_some((plan, done)));
-    };
-    let tail = &file[plan.start..];
-    let saved = if request.discard_tail && !tail.is_empty() { Some(save(path, tail)?) } else { None };
-    // Whoever keeps to the lock cannot have changed it; others must not lose what they wrote.
-    if held.metadata().map(|metadata| metadata.len()).ok() != Some(file.len() as u64) {
-        let words = "somebody has changed its length without the lock; nothing is written";
-        return Err(Failure::Io(format!("{}: {words}", path.display())));
+        return Ok((put(path, plan.new_bytes(), writing.wait)? == Put::Done).then_some((plan, done)));
     }
-    let written = commit(held, plan.start as u64, plan.new_bytes());
-    written.map_err(|broken| Failure::Io(format!("{}: {}", path.display(), broken.words())))?;
+    let saved = if writing.discard_tail { held.save_from(plan.start, path)? } else { None };
+    let failed = |words: String| Failure::Io(format!("{}: {words}", path.display()));
+    held.must_be_unchanged().map_err(|words| failed(format!("{words}; nothing is written")))?;
+    if let Some(file) = &mut held.file {
+        commit(file, plan.start as u64, plan.new_bytes()).map_err(|broken| failed(broken.words()))?;
+    }
     Ok(Some((plan, Done { dry_run: false, saved })))
 }
 
@@ -72,27 +67,15 @@ fn append(request: &Append, batch: &[u8], time: u64) -> Result<Option<(Plan, Don
 fn plan(request: &Append, file: &[u8], batch: &[u8], time: u64) -> Result<Plan, Failure> {
     let attempt = Attempt { request, file, batch };
     let refused = |refusal| attempt.failure(refusal);
-    if !request.discard_tail && rvf::open(file).is_ok() {
+    if !request.writing.discard_tail && rvf::open(file).is_ok() {
         if let Some(loss) = loss(file).map_err(refused)? {
-            return Err(loss.unwritten(&request.file));
+            return Err(loss.unwritten(&request.file, "an append would remove", DISCARD_AND_APPEND));
         }
     }
     Plan::of(file, batch, &request.retire, time).map_err(refused)
 }
 
-/// Saves the bytes behind the end in a file of their own, beside the store's.
-fn save(path: &Path, tail: &[u8]) -> Result<PathBuf, Failure> {
-    let name = |number: u64| {
-        let mut name = path.as_os_str().to_os_string();
-        name.push(format!(".tail-{number}"));
-        PathBuf::from(name)
-    };
-    let free = (1..).map(name).find(|name| fs::symlink_metadata(name).is_err());
-    let free = free.ok_or_else(|| Failure::Io(format!("{}: no name is left for its tail", path.display())))?;
-    write_new(&free, tail)?;
-    flush_folder(&free)?;
-    Ok(free)
-}
+const DISCARD_AND_APPEND: &str = "or --discard-tail, which saves what lies behind in a file of its own and appends";
 
 /// Whether there is such a file; anything else of this name cannot be appended to, and where
 /// there is none, one must be wished for.
@@ -136,12 +119,4 @@ fn vectors(name: &str, text: &[u8], reading: Reading) -> Result<Vec<u8>, Failure
     })?;
     let batch = rvf::batch(&[Body { kind: rvf::VEC, flags: 0, bytes: &payload }]);
     if batch.len() > BATCH_LIMIT { Err(too_many(Refusal::Batch)) } else { Ok(batch) }
-}
-
-fn open(request: &Append) -> Result<File, Failure> {
-    let path = &request.file;
-    let opened = OpenOptions::new().read(true).write(true).open(path);
-    let file = opened.map_err(|error| Failure::unreadable(path, &error))?;
-    lock(path, &file, request.wait)?;
-    Ok(file)
 }

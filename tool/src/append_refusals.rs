@@ -7,8 +7,7 @@ use crate::failure::{Failure, Refused};
 use crate::manifests::{payload_length, ENTRIES};
 use crate::quote::quoted;
 use crate::refusals::{absent, entry};
-use crate::room::frees;
-use crate::walk::HEADER;
+use crate::room::{frees, segment};
 use rvf::{Refusal, FILE_LIMIT};
 use std::collections::HashSet;
 
@@ -31,8 +30,8 @@ impl Attempt<'_> {
                 "make the body again with the vector writer (rvf_vec_write, or --vectors TEXT); the file is as it was",
             ),
             Refusal::Retire => self.retire(of_file),
-            Refusal::FileTooLong => of_file.why(self.too_long()).next(frees(path)),
-            Refusal::DirectoryFull => of_file.why(self.too_many()).next(frees(path)),
+            Refusal::FileTooLong => of_file.why(self.too_long()).next(frees(path, self.file)),
+            Refusal::DirectoryFull => of_file.why(self.too_many()).next(frees(path, self.file)),
             Refusal::IdsUsedUp => {
                 of_file.why("the file's manifest has the last ids").next("start a new file with --create")
             }
@@ -99,7 +98,6 @@ impl Attempt<'_> {
 
     fn too_long(&self) -> String {
         let start = rvf::open(self.file).map_or(0, |manifest| manifest.end as usize);
-        let segment = |length: usize| (HEADER + length).next_multiple_of(HEADER);
         let bodies: usize = self.bodies().iter().map(|body| segment(body.bytes.len())).sum();
         let end = start + bodies + segment(payload_length(self.entries()));
         format!("with this batch the file would have {end} bytes, it has at most {FILE_LIMIT}")

@@ -16,6 +16,7 @@ pub enum Command {
     Check(Vec<PathBuf>),
     Get(Get),
     Append(Append),
+    Compact(Compact),
     Salvage {
         file: PathBuf,
         to: PathBuf,
@@ -47,10 +48,24 @@ pub struct Append {
     /// The timestamp, where one was named.
     pub time: Option<u64>,
     pub create: bool,
+    pub writing: Writing,
+}
+
+/// A compaction: of a file in its place, or to a new one.
+#[derive(Debug)]
+pub struct Compact {
+    pub file: PathBuf,
+    pub to: Option<PathBuf>,
+    pub writing: Writing,
+}
+
+/// What the commands that write a file share.
+#[derive(Clone, Copy, Debug)]
+pub struct Writing {
     pub dry_run: bool,
     /// Whether lost batches behind the end may be removed, once they are saved elsewhere.
     pub discard_tail: bool,
-    /// How long to wait for an append that holds the file.
+    /// How long to wait for another that holds the file.
     pub wait: Duration,
 }
 
@@ -121,6 +136,7 @@ pub fn parse(words: Vec<OsString>) -> Result<Command, Failure> {
         Some("get") => get(words),
         Some("append") => append(words),
         Some("retire") => retire(words),
+        Some("compact") => compact(words),
         Some("salvage") => salvage(words),
         _ => Err(usage(format!("unknown command '{}'", name.to_string_lossy()))),
     }
@@ -155,18 +171,18 @@ fn get(mut words: Words) -> Result<Command, Failure> {
     Ok(Command::Get(Get { file: file.into(), wanted, accept_older }))
 }
 
-/// What append and retire share, without the file, the batch and the ids to retire.
-fn common(words: &mut Words) -> Result<Append, Failure> {
-    Ok(Append {
-        file: PathBuf::new(),
-        batch: Batch::Empty,
-        retire: Vec::new(),
-        time: words.number("--time")?,
-        create: false,
+fn writing(words: &mut Words) -> Result<Writing, Failure> {
+    Ok(Writing {
         dry_run: words.flag("--dry-run"),
         discard_tail: words.flag("--discard-tail"),
         wait: Duration::from_secs(words.number("--wait")?.unwrap_or(0)),
     })
+}
+
+/// What append and retire share, without the file, the batch and the ids to retire.
+fn common(words: &mut Words) -> Result<Append, Failure> {
+    let (time, writing) = (words.number("--time")?, writing(words)?);
+    Ok(Append { file: PathBuf::new(), batch: Batch::Empty, retire: Vec::new(), time, create: false, writing })
 }
 
 fn append(mut words: Words) -> Result<Command, Failure> {
@@ -202,6 +218,14 @@ fn retire(mut words: Words) -> Result<Command, Failure> {
     }
     let retire = ids.iter().map(|id| number("SEGMENT-ID", id)).collect::<Result<_, _>>()?;
     Ok(Command::Append(Append { file: file.into(), retire, ..common }))
+}
+
+fn compact(mut words: Words) -> Result<Command, Failure> {
+    let (writing, to) = (writing(&mut words)?, words.value("--to").map(PathBuf::from));
+    match &words.finish("rvf compact", 1)?[..] {
+        [file] => Ok(Command::Compact(Compact { file: file.into(), to, writing })),
+        _ => Err(usage("rvf compact needs a FILE")),
+    }
 }
 
 fn salvage(words: Words) -> Result<Command, Failure> {

@@ -4,6 +4,7 @@
 use crate::absence::Absence;
 use crate::lost::Loss;
 use crate::manifests::{doubt, Doubt};
+use crate::room::{back, Room};
 use crate::walk::{type_name, walk, Link, Walk};
 use rvf::{Entry, Manifest, OpenRefused, Refusal};
 
@@ -40,6 +41,8 @@ pub struct Checked {
     pub absence: Option<Absence>,
     /// In the order of their offsets.
     pub findings: Vec<Finding>,
+    /// What is left where room is scarce, and what a compaction brings back.
+    pub room: Option<(Room, Room)>,
 }
 
 impl Checked {
@@ -72,7 +75,10 @@ pub fn check(file: &[u8]) -> Result<Checked, Refusal> {
     let end = manifest.as_ref().map_or(usize::MAX, |(manifest, _)| manifest.end as usize);
     findings.extend(unconfirmed(file, &walk.links, end));
     findings.sort_by_key(|finding| finding.offset);
-    Ok(Checked { length: file.len(), walk, manifest, loss, absence, findings })
+    let room = manifest.as_ref().and_then(|(manifest, entries)| {
+        Some((Room::scarce(manifest.count, manifest.end)?, back(manifest, entries)))
+    });
+    Ok(Checked { length: file.len(), walk, manifest, loss, absence, findings, room })
 }
 
 /// What a segment's content breaks, in the order in which calls look at it.
@@ -165,7 +171,7 @@ fn behind(file: &[u8], links: &[Link], manifest: &Manifest, loss: Option<&Loss>)
     if let Some(loss) = loss {
         let what = format!("the chain breaks: {}", loss.why);
         let (lost, id) = (loss.what(), manifest.id);
-        let effect = format!("{lost}\nwhat manifest {id} answers may be old: get, append and retire stop here");
+        let effect = format!("{lost}\nwhat manifest {id} answers may be old: get, append, retire and compact stop here");
         return Some(Finding { weight: Weight::Fault, offset: loss.at, segment: None, refusal: None, what, effect });
     }
     let links = match links.iter().filter(|link| link.offset >= end).count() {

@@ -3,10 +3,10 @@
 use crate::json::Json;
 use crate::Answer;
 
-pub const COMMANDS: [&str; 6] = ["list", "check", "get", "append", "retire", "salvage"];
+pub const COMMANDS: [&str; 7] = ["list", "check", "get", "append", "retire", "compact", "salvage"];
 
 const ALL: &str = "\
-rvf: RVF files listed, checked, read and appended to
+rvf: RVF files listed, checked, read, appended to and compacted
 
   rvf list FILE...                          the segments of the file's directory
   rvf check FILE...                         what is wrong with a file, where, and what it means
@@ -16,6 +16,7 @@ rvf: RVF files listed, checked, read and appended to
   rvf append FILE BATCH                     append a batch
   rvf append FILE --vectors TEXT            append vectors written as text
   rvf retire FILE SEGMENT-ID...             retire segments
+  rvf compact FILE                          get the room of retired segments and older manifests back
   rvf salvage FILE NEW                      save what is whole in a damaged file to a new one
   rvf help COMMAND                          more about a command (also -h, --help)
   rvf --version                             the version (also -V)
@@ -28,7 +29,7 @@ output. A value may follow its option as a word or behind '='. Behind -- no word
 
 Exit status: 0 done; 1 to 14 the number of a refusal; 64 wrong words; 65 faults, or lost batches;
 66 an input cannot be read; 73 done, but standard output failed; 74 reading or writing failed;
-75 another append holds the file.
+75 another append or compaction holds the file.
 ";
 
 const LIST: &str = "\
@@ -70,7 +71,7 @@ rvf append FILE --vectors TEXT [--no-final-newline] [--round] [options]
   --retire SEGMENT-ID   also retire a segment; may be given several times
   --time NANOSECONDS    the time of the new segments since 1970; else it is now
   --create              start a new file where there is none
-  --wait SECONDS        wait for another append that holds the file
+  --wait SECONDS        wait for another append or compaction that holds the file
   --dry-run             say what would be done and write nothing
   --discard-tail        remove lost batches behind the manifest, once they are saved in FILE.tail-N
 
@@ -95,6 +96,23 @@ damage, append the batch again with --retire instead: then no older position com
 The options are those of 'rvf append'.
 ";
 
+const COMPACT: &str = "\
+rvf compact FILE [options]
+
+  --to NEW          write the fresh file to NEW, which must not exist, and leave FILE alone
+  --wait SECONDS    wait for another append or compaction that holds the file
+  --dry-run         say what would be done and write nothing
+  --discard-tail    remove lost batches behind the manifest, once they are saved in FILE.tail-N
+
+Writes a fresh file of the live segments and one manifest, and puts it in FILE's place: what is
+retired, and the manifests of older batches, are gone for good, and their bytes and entries come
+back. Ids, times and flags stay; vectors and payloads answer as before, and the next append gets
+the id that it would have got. Refused (4) where a live segment is damaged. A batch that was cut
+short goes too; lost batches stop it (65). The fresh file is written beside FILE, flushed and
+renamed, so a power cut or a kill leaves the old file or the new one. Where nothing would come
+back, FILE is left as it is.
+";
+
 const SALVAGE: &str = "\
 rvf salvage FILE NEW [--json]
 
@@ -112,6 +130,7 @@ fn text(topic: Option<&str>) -> &'static str {
         Some("get") => GET,
         Some("append") => APPEND,
         Some("retire") => RETIRE,
+        Some("compact") => COMPACT,
         Some("salvage") => SALVAGE,
         _ => ALL,
     }

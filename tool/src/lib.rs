@@ -2,7 +2,7 @@
 //!
 //! Every answer about a file comes from the store's library, through the binding. The
 //! tool adds what stands around it: words and exit statuses, files that are read up to
-//! the limit and no further, a commit that a power cut cannot spoil (`commit`), a
+//! the limit and no further, writing that a power cut cannot spoil (`commit`, `beside`), a
 //! walk through a file that says why it stops (`walk`, `manifests`, `check`), and a stop
 //! where the library's answer is right and may be old (`lost`).
 
@@ -11,13 +11,17 @@ pub mod append;
 pub mod append_refusals;
 pub mod args;
 pub mod batch;
+pub mod beside;
 pub mod check;
 pub mod commit;
+pub mod compact;
 pub mod date;
 pub mod failure;
 pub mod files;
 pub mod first;
+pub mod fresh;
 pub mod get;
+pub mod held;
 pub mod help;
 pub mod json;
 pub mod list;
@@ -100,6 +104,7 @@ fn perform(command: &Command, json: bool, stdin: &mut dyn Read) -> Result<Answer
         Command::Check(files) => each(files, json, |file| report::run(file, json)),
         Command::Get(request) => get::run(request, json),
         Command::Append(request) => append::run(request, json, stdin),
+        Command::Compact(request) => compact::run(request, json),
         Command::Salvage { file, to } => salvage::run(file, to, json),
     }
 }

@@ -1,4 +1,4 @@
-//! Appends take turns: each holds a lock on the file that it writes.
+//! Appends and compactions take turns: each holds a lock on the file that it writes.
 
 use crate::failure::Failure;
 use std::fs::{self, File, TryLockError};
@@ -7,7 +7,7 @@ use std::time::{Duration, Instant};
 
 const PAUSE: Duration = Duration::from_millis(20);
 
-/// Locks an open file. Of two appends at once, the second must not start from what the first
+/// Locks an open file. Of two writers at once, the second must not start from what the first
 /// is writing: it waits as long as it is told to, and is turned away then.
 pub fn lock(path: &Path, file: &File, wait: Duration) -> Result<(), Failure> {
     let begun = Instant::now();
@@ -16,7 +16,7 @@ pub fn lock(path: &Path, file: &File, wait: Duration) -> Result<(), Failure> {
             Ok(()) => return Ok(()),
             Err(TryLockError::WouldBlock) if begun.elapsed() < wait => std::thread::sleep(PAUSE),
             Err(TryLockError::WouldBlock) => {
-                let words = "another append is at work on it; try again, or add --wait SECONDS";
+                let words = "another append or compaction is at work on it; try again, or add --wait SECONDS";
                 return Err(Failure::Busy(format!("{}: {words}", path.display())));
             }
             Err(TryLockError::Error(error)) => return Err(Failure::broken(path, "cannot be locked", &error)),
@@ -24,8 +24,8 @@ pub fn lock(path: &Path, file: &File, wait: Duration) -> Result<(), Failure> {
     }
 }
 
-/// Whether a path still names an open file. A first batch that another append has put in its
-/// place meanwhile makes it name a new one, and a lock on the old one holds nothing.
+/// Whether a path still names an open file. A first batch or a fresh file that another has put in
+/// its place meanwhile makes it name a new one, and a lock on the old one holds nothing.
 #[cfg(unix)]
 pub fn still_named(path: &Path, file: &File) -> bool {
     use std::os::unix::fs::MetadataExt;

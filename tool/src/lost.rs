@@ -65,10 +65,9 @@ impl Loss {
         self.failure(path, "what the file answers may be old", option)
     }
 
-    /// Nothing is appended.
-    pub fn unwritten(&self, path: &Path) -> Failure {
-        let option = "or --discard-tail, which saves what lies behind in a file of its own and appends";
-        self.failure(path, "an append would remove what lies behind; nothing is written", option)
+    /// Nothing is written: what the command would do to what lies behind, and what it may be told.
+    pub fn unwritten(&self, path: &Path, would: &str, option: &str) -> Failure {
+        self.failure(path, &format!("{would} what lies behind; nothing is written"), option)
     }
 
     /// The lines for standard error where the older answer is accepted.

@@ -2,7 +2,7 @@
 
 use crate::date;
 use crate::json::Json;
-use crate::room::Room;
+use crate::room::{entries, Room};
 use crate::walk::{le64, type_name, HEADER};
 use rvf::{Appended, Entry, Refusal, FILE_LIMIT};
 use std::path::{Path, PathBuf};
@@ -51,6 +51,11 @@ impl Plan {
         &self.buffer[self.start..self.appended.end as usize]
     }
 
+    /// The whole file after the append.
+    pub fn file(&self) -> &[u8] {
+        &self.buffer[..self.appended.end as usize]
+    }
+
     /// The ids of the new segments, without the manifest's.
     fn ids(&self) -> std::ops::Range<u64> {
         self.appended.id - self.segments..self.appended.id
@@ -67,11 +72,10 @@ impl Plan {
             1 => format!("segment {} and ", self.ids().start),
             _ => format!("segments {} to {} and ", self.ids().start, id - 1),
         };
-        let entries = if count == 1 { "entry" } else { "entries" };
         let dry = ("would append", "would retire", "would be");
         let (append, retire, are) = if done.dry_run { dry } else { ("appended", "retired", "are") };
         let mut text =
-            format!("{}: {append} {segments}manifest {id}; {count} {entries}, {end} bytes\n", path.display());
+            format!("{}: {append} {segments}manifest {id}; {}, {end} bytes\n", path.display(), entries(count));
         for (entry, time) in &self.retired {
             let (id, kind, length) = (entry.id, type_name(entry.kind), entry.length);
             text += &format!("{retire} segment {id}: {kind}, {length} bytes, time {}\n", date::shown(*time));

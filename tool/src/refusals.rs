@@ -6,6 +6,7 @@ use crate::failure::{Failure, Refused};
 use crate::files::too_long;
 use crate::lost::loss;
 use crate::quote::quoted;
+use crate::room::kept;
 use crate::walk::{type_name, walk, Link};
 use rvf::{Entry, Refusal};
 use std::path::Path;
@@ -34,6 +35,33 @@ pub fn reading(path: &Path, file: &[u8], target: Target, refusal: Refusal) -> Fa
         },
     }
     .into()
+}
+
+/// A compaction refused: a copy would carry damage on, so every segment to be copied must be whole.
+pub fn compacting(path: &Path, file: &[u8], refusal: Refusal) -> Failure {
+    let links = walk(file).links;
+    let entries = rvf::entries(file).unwrap_or_default();
+    let copied = links.iter().zip(&entries).filter(|(_, entry)| kept(entry)).map(|(link, _)| link);
+    let damaged: Vec<&Link> = copied.filter(|link| !link.whole(file)).collect();
+    let (Refusal::ContentHash, [first, more @ ..]) = (refusal, &damaged[..]) else {
+        return reading(path, file, Target::Directory, refusal);
+    };
+    let more = match more.len() {
+        0 => String::new(),
+        count => format!("; {count} more are damaged: 'rvf check {}' names them", quoted(path)),
+    };
+    let (append, retire) = mending(path, damaged.iter().map(|link| link.id));
+    let why = format!("{}{more}", bad(first, refusal));
+    let next = format!("append the batch again: '{append}', or only retire what is bad: '{retire}'; then compact");
+    Refused::of(path, refusal).why(why).next(next).into()
+}
+
+/// The two commands that put an end to damage in segments: the first brings the present
+/// position back, the second an older one.
+pub fn mending(path: &Path, ids: impl Iterator<Item = u64> + Clone) -> (String, String) {
+    let file = quoted(path);
+    let words = |before: &str| ids.clone().map(|id| format!("{before}{id}")).collect::<String>();
+    (format!("rvf append {file} BATCH{}", words(" --retire ")), format!("rvf retire {file}{}", words(" ")))
 }
 
 /// Why a file has no manifest.

@@ -7,7 +7,8 @@ use crate::json::Json;
 use crate::list::manifest_json;
 use crate::lost::Loss;
 use crate::quote::quoted;
-use crate::refusals::{reading, Target};
+use crate::refusals::{mending, reading, Target};
+use crate::room::advice;
 use crate::walk::Stop;
 use crate::Answer;
 use rvf::Manifest;
@@ -24,6 +25,9 @@ pub fn run(path: &Path, json: bool) -> Result<Answer, Failure> {
 fn text(path: &Path, checked: &Checked) -> String {
     let mut text =
         format!("{}: {} bytes\n{}\n{}\n", path.display(), checked.length, chain(checked), manifest(checked));
+    if let Some((room, back)) = checked.room {
+        let _ = writeln!(text, "room: {}; {}", room.left(), advice(path, back));
+    }
     for finding in &checked.findings {
         let word = match finding.weight {
             Weight::Fault => "FAULT ",
@@ -65,8 +69,8 @@ fn next(path: &Path, checked: &Checked) -> String {
     if let Some(absence) = &checked.absence {
         return format!("next: {}\n", absence.next(path));
     }
-    let path = quoted(path);
     if checked.loss.is_some() {
+        let path = quoted(path);
         return format!(
             "next: 'rvf salvage {path} NEW' saves every segment that is whole to a new file; or take a copy\n      \
              from elsewhere; or append with --discard-tail, which saves what lies behind beside the file\n"
@@ -77,11 +81,10 @@ fn next(path: &Path, checked: &Checked) -> String {
     if ids.is_empty() {
         return String::new();
     }
-    let words = |before: &str| ids.iter().map(|id| format!("{before}{id}")).collect::<String>();
-    let (retire, ids) = (words(" --retire "), words(" "));
+    let (append, retire) = mending(path, ids.iter().copied());
     format!(
-        "next: append the batch again and retire what is bad in one step: 'rvf append {path} BATCH{retire}'\n      \
-         or only retire it: 'rvf retire {path}{ids}'; older vectors with the same ids are answered from then on\n"
+        "next: append the batch again and retire what is bad in one step: '{append}'\n      \
+         or only retire it: '{retire}'; older vectors with the same ids are answered from then on\n"
     )
 }
 
@@ -95,7 +98,7 @@ fn value(checked: &Checked) -> Json {
         ("stopped", Json::Number(checked.walk.stopped as u64)),
         ("why", why),
     ];
-    Json::Object(vec![
+    let mut members = vec![
         ("length", Json::Number(checked.length as u64)),
         ("chain", Json::Object(chain)),
         ("manifest", checked.manifest.as_ref().map_or(Json::Null, |(manifest, _)| manifest_json(manifest))),
@@ -103,7 +106,11 @@ fn value(checked: &Checked) -> Json {
         ("findings", Json::List(checked.findings.iter().map(finding_json).collect())),
         ("faults", Json::Number(checked.count(Weight::Fault) as u64)),
         ("remarks", Json::Number(checked.count(Weight::Remark) as u64)),
-    ])
+    ];
+    if let Some((room, back)) = checked.room {
+        members.extend([("left", room.json()), ("back", back.json())]);
+    }
+    Json::Object(members)
 }
 
 fn finding_json(finding: &Finding) -> Json {

@@ -4,7 +4,7 @@ use crate::append::now;
 use crate::date;
 use crate::failure::{Failure, Refused, DONE, FAULTS};
 use crate::files::read_store;
-use crate::first::{put, Put};
+use crate::first::{create, must_be_free};
 use crate::json::Json;
 use crate::list::state;
 use crate::manifests::ENTRIES;
@@ -15,7 +15,6 @@ use crate::walk::type_name;
 use crate::Answer;
 use rvf::{Refusal, FILE_LIMIT};
 use std::fmt::Write;
-use std::fs;
 use std::path::Path;
 use std::time::Duration;
 
@@ -27,15 +26,10 @@ pub struct Salvaged {
 }
 
 pub fn run(path: &Path, to: &Path, json: bool) -> Result<Answer, Failure> {
-    let exists = || Failure::Io(format!("{}: exists already; name another path", to.display()));
-    if fs::symlink_metadata(to).is_ok() {
-        return Err(exists());
-    }
+    must_be_free(to)?;
     let file = read_store(path)?;
     let salvaged = salvage(path, &file, to, now())?;
-    if put(to, &salvaged.new, Duration::ZERO)? == Put::Overtaken {
-        return Err(exists());
-    }
+    create(to, &salvaged.new, Duration::ZERO)?;
     let report = Report { salvaged: &salvaged, file: &file, to };
     let status = if report.complete() { DONE } else { FAULTS };
     Ok(Answer::of(json, || report.json(), || report.text(path)).with_status(status))

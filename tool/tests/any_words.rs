@@ -36,7 +36,7 @@ fn any_words_and_any_file() {
 
 fn any_words(random: &mut Random) {
     put("batch".as_ref(), &small_batch());
-    let commands = ["list", "check", "get", "append", "retire", "salvage", "help", "file", "--json"];
+    let commands = ["list", "check", "get", "append", "retire", "compact", "salvage", "help", "file", "--json"];
     let words = [
         "file", "file", "file", "batch", "batch", "empty", "missing", ".", "-", "", "1", "2", "30", "18446744073709551616", "--",
         "--json", "--help", "--version", "--create", "--segment", "--component", "--to", "--retire", "--time", "--vectors",
@@ -62,13 +62,14 @@ fn any_file(random: &mut Random) {
             damage(random, &mut file);
         }
         refresh("file", &file);
-        for words in ["list file", "check file", "get file 7", "get file --segment 2"] {
+        for words in ["list file", "check file", "get file 7", "get file --segment 2", "compact file --dry-run"] {
             run(&format!("{words} --json").split(' ').collect::<Vec<_>>());
         }
         // What is written waits for the disk, so it comes only now and then.
         if round % 20 == 0 {
             let _ = std::fs::remove_file("new");
             run(&["salvage", "file", "new", "--json"]);
+            run(&["compact", "file", "--json"]);
             run(&["append", "file", "batch", "--json"]);
         }
     }

@@ -73,7 +73,7 @@ fn a_damaged_newest_manifest_is_a_fault() {
     let wanted = "the chain breaks: segment 6 (MANIFEST) is no confirmed manifest: its content hash differs";
     assert_eq!((fault.offset, fault.what.as_str()), (9_344, wanted));
     let effect = "4672 bytes behind byte 9152 are lost, not cut short: manifest 6 at byte 9344 among them\n\
-                  what manifest 4 answers may be old: get, append and retire stop here";
+                  what manifest 4 answers may be old: get, append, retire and compact stop here";
     assert_eq!(fault.effect, effect);
 }
 

@@ -4,10 +4,9 @@
 mod common;
 
 use common::cases::{apply, cases, write, Case, Step};
+use common::sectors::{chosen, cuts, parts, stored, Part};
 use common::{end_of, Random};
 use rvf_tool::commit::LAST;
-
-const SECTOR: usize = 512;
 
 /// The order that `commit` promises.
 #[test]
@@ -47,57 +46,6 @@ fn stopped_anywhere() {
         }
         assert!(case.must_be_sound(&file), "at the end the new batch is there");
     }
-}
-
-/// Every place, or those around every multiple of 64 and of a sector.
-fn cuts(length: usize, every: bool) -> Vec<usize> {
-    let near = |place: &usize| every || matches!(place % 64, 0 | 1 | 5 | 16 | 63) || place % SECTOR < 2;
-    (0..=length).filter(near).collect()
-}
-
-/// A part of an unflushed step that a disk stores or loses by itself.
-#[derive(Clone)]
-enum Part {
-    /// The file's length becomes this, or at least this.
-    Length { exactly: bool, length: usize },
-    Data { offset: usize, bytes: Vec<u8> },
-}
-
-/// A write is a length and the sectors that it touches; each may be lost by itself.
-fn parts(step: &Step) -> Vec<Part> {
-    let Step::Write(offset, bytes) = step else {
-        return match step {
-            Step::SetLen(length) => vec![Part::Length { exactly: true, length: *length as usize }],
-            _ => Vec::new(),
-        };
-    };
-    let (mut parts, mut at, mut rest) = (Vec::new(), *offset as usize, &bytes[..]);
-    while !rest.is_empty() {
-        let (sector, more) = rest.split_at(rest.len().min(SECTOR - at % SECTOR));
-        parts.push(Part::Data { offset: at, bytes: sector.to_vec() });
-        at += sector.len();
-        parts.push(Part::Length { exactly: false, length: at });
-        rest = more;
-    }
-    parts
-}
-
-/// The file that is left where some parts were stored. Data that the stored length does not
-/// reach is not seen; a length without its data shows zeros.
-fn stored(file: &[u8], parts: &[Part], keep: impl Fn(usize) -> bool) -> Vec<u8> {
-    let (mut bytes, mut length) = (file.to_vec(), file.len());
-    for (_, part) in parts.iter().enumerate().filter(|(index, _)| keep(*index)) {
-        match part {
-            Part::Length { exactly: true, length: new } => {
-                length = *new;
-                bytes.truncate(*new);
-            }
-            Part::Length { length: new, .. } => length = length.max(*new),
-            Part::Data { offset, bytes: data } => write(&mut bytes, *offset, data),
-        }
-    }
-    bytes.resize(length, 0);
-    bytes
 }
 
 /// The steps between two flushes, each group with the file as it was flushed before.
@@ -140,10 +88,7 @@ fn random_subsets_of_unflushed_sectors() {
     for case in cases() {
         for (file, parts) in groups(&case) {
             for _ in 0..300 {
-                // From nearly nothing stored to nearly all.
-                let (share, mix) = (random.below(101) as u64, random.next());
-                let keep = |index: usize| (mix.rotate_left(7 * index as u32).wrapping_mul(0x2545_F491_4F6C_DD1D) >> 33) % 100 < share;
-                case.must_be_sound(&stored(&file, &parts, keep));
+                case.must_be_sound(&stored(&file, &parts, chosen(&mut random)));
             }
         }
     }

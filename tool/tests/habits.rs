@@ -109,8 +109,19 @@ fn room_that_runs_out() {
         ran.json()
     );
     let said = format!("rvf: {}: 203 of 1024 entries and ", text(&place.file));
-    let frees = format!("'rvf salvage {} NEW' writes a file with one manifest for all batches\n", text(&place.file));
-    assert!(ran.status == 0 && ran.stderr.starts_with(&said) && ran.stderr.ends_with(&frees), "{}", ran.stderr);
+    let frees = format!("; compact it: 'rvf compact {}' brings ", text(&place.file));
+    assert!(ran.status == 0 && ran.stderr.starts_with(&said) && ran.stderr.contains(&frees), "{}", ran.stderr);
+    // The check says it too, and what a compaction says that it brings back is what comes back.
+    let (checked, json) = (rvf(&["check", text(&place.file)]), rvf(&["check", text(&place.file), "--json"]));
+    assert!(checked.status == 0 && checked.text().contains("\nroom: 203 of 1024 entries and "), "{}", checked.text());
+    let promised = ran.stderr.rsplit_once("' brings ").expect("a promise").1.strip_suffix(" back\n").expect("its end");
+    assert!(checked.text().contains(&format!("' brings {promised} back\n")), "{}", checked.text());
+    assert!(json.json().contains(",\"left\":{\"entries\":203,\"bytes\":"), "{}", json.json());
+    let compacted = rvf(&["compact", text(&place.file)]);
+    assert_eq!((compacted.status, compacted.stderr.as_str()), (0, ""));
+    let back = format!("\n{promised} came back: 1 retired segment and 410 older manifests are gone\n");
+    assert!(compacted.text().contains(&back), "{}", compacted.text());
+    assert!(!rvf(&["check", text(&place.file)]).text().contains("room: "));
 }
 
 /// Paths in suggested commands go into a shell as they are.

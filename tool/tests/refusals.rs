@@ -168,8 +168,13 @@ fn full_stores() {
     let place = Place::new("why-12", &full, &small_batch());
     let lines = why(&place.append(&[]), &place.file, 12);
     assert_eq!(lines[0], "with this batch the directory would have 1026 entries, it has at most 1024");
-    let compact = format!("next: compact it: 'rvf salvage {} NEW'", text(&place.file));
-    assert!(lines[1].starts_with(&compact), "{lines:?}");
+    let back = "brings 14700416 bytes and 511 entries back";
+    assert_eq!(lines[1], format!("next: compact it: 'rvf compact {}' {back}", text(&place.file)));
+    // Compacted it takes the batch, with the ids that it would have got.
+    assert_eq!(rvf(&["compact", text(&place.file)]).status, 0);
+    let ran = place.append(&["--json"]);
+    let ids = "{\"segments\":[1024,1025],\"manifest\":1026,\"entries\":515,";
+    assert!(ran.status == 0 && ran.json().starts_with(ids), "{}", ran.json());
     // Bytes: a body of a million of them sixteen times.
     let large = rvf::batch(&[body(7, &[5; 1_000_000])]);
     let mut file = Vec::new();

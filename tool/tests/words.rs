@@ -11,7 +11,7 @@ use std::time::{Duration, Instant};
 
 #[test]
 fn wrong_words_are_named() {
-    let cases: [(&[&str], &str); 33] = [
+    let cases: [(&[&str], &str); 39] = [
         (&[], "name a command"),
         (&["show"], "unknown command 'show'"),
         (&["help", "show"], "unknown command 'show'"),
@@ -20,6 +20,12 @@ fn wrong_words_are_named() {
         (&["salvage", "a", "b", "c"], "rvf salvage has no use for 'c'"),
         (&["salvage", "a"], "rvf salvage needs a FILE and the path of a NEW one"),
         (&["check"], "rvf check needs a FILE"),
+        (&["compact"], "rvf compact needs a FILE"),
+        (&["compact", "a", "b"], "rvf compact has no use for 'b'"),
+        (&["compact", "a", "--to"], "--to needs a value"),
+        (&["compact", "a", "--to", "b", "--to", "c"], "--to is given twice"),
+        (&["compact", "a", "--time", "1"], "rvf compact takes no --time"),
+        (&["compact", "a", "--wait", "long"], "--wait must be a whole number"),
         (&["list", "a", "--quiet=yes"], "--quiet takes no value"),
         (&["list", "a", "-q", "--quiet"], "--quiet is given twice"),
         (&["get", "a", "1", "--dry-run"], "rvf get takes no --dry-run"),
@@ -75,7 +81,7 @@ fn help_and_version() {
     assert_eq!(rvf(&["--help"]).text(), all.text());
     assert_eq!(rvf(&["-h"]).text(), all.text());
     assert_eq!(rvf(&["-V"]).text(), "rvf 0.1.0\n");
-    for command in ["list", "check", "get", "append", "retire", "salvage"] {
+    for command in ["list", "check", "get", "append", "retire", "compact", "salvage"] {
         assert!(all.text().contains(&format!("  rvf {command} FILE")));
         let about = rvf(&[command, "--help"]);
         assert!(about.status == 0 && about.text().starts_with(&format!("rvf {command} FILE")));
@@ -123,6 +129,9 @@ fn every_command<'a>(path: &'a Path, batch: &'a Path) -> Vec<Vec<&'a str>> {
         vec!["get", path, "--segment", "1"],
         vec!["append", path, batch],
         vec!["retire", path, "1"],
+        vec!["compact", path],
+        vec!["compact", path, "--dry-run"],
+        vec!["compact", path, "--to", "/no/such/folder/new"],
     ]
 }
 
@@ -167,7 +176,7 @@ fn a_file_above_the_limit_is_refused_1() {
     File::create(&long).and_then(|file| file.set_len(limit)).expect("a sparse file");
     let status = |words: &[&str]| rvf(words).status;
     let statuses: Vec<i32> = every_command(&long, &batch).iter().map(|words| status(words)).collect();
-    assert_eq!(statuses, [2, 65, 2, 2, 2, 2]);
+    assert_eq!(statuses, [2, 65, 2, 2, 2, 2, 2, 2, 2]);
 }
 
 #[test]

@@ -62,6 +62,14 @@ fn damaged(clean: &[u8]) -> Result<Vec<u8>, Refusal> {
     Ok(file)
 }
 
+/// The clean file without its retired segment and its older manifests.
+fn compacted(clean: &[u8]) -> Result<Vec<u8>, Refusal> {
+    let mut buffer = vec![0; clean.len()];
+    let end = rvf::compact(clean, &mut buffer)?.end;
+    buffer.truncate(end as usize);
+    Ok(buffer)
+}
+
 /// A file whose one body is the whole clean file, its manifests included.
 fn nested(clean: &[u8]) -> Result<Vec<u8>, Refusal> {
     append(&[], &[note(clean)], &[], 5_000)
@@ -102,6 +110,7 @@ fn main() -> Result<(), Box<dyn std::error::Error>> {
         ("worked.rvf", worked()?),
         ("torn.rvf", torn(&clean)?),
         ("damaged.rvf", damaged(&clean)?),
+        ("compacted.rvf", compacted(&clean)?),
         ("nested.rvf", nested(&clean)?),
         ("restarts.rvf", restarts()?),
         ("kinds.rvf", kinds()?),

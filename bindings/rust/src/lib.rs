@@ -20,7 +20,7 @@ pub use reading::{
     Shape, Vector,
 };
 pub use refusal::Refusal;
-pub use writing::{append, batch, vectors, Appended, Body, Encoding, Vectors};
+pub use writing::{append, batch, compact, vectors, Appended, Body, Compacted, Encoding, Vectors};
 
 /// The longest file, in bytes.
 pub const FILE_LIMIT: usize = 16_777_216;

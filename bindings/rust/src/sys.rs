@@ -76,4 +76,11 @@ extern "C" {
         timestamp: u64,
         out: *mut [u64; 3],
     ) -> u32;
+    pub fn rvf_compact(
+        file: *const u8,
+        file_len: usize,
+        buffer: *mut u8,
+        buffer_len: usize,
+        out: *mut [u64; 3],
+    ) -> u32;
 }

@@ -1,4 +1,4 @@
-//! Writing: payloads of vectors, batches, and the append.
+//! Writing: payloads of vectors, batches, the append, and the fresh file of a compaction.
 
 use crate::{accepted, sys, Dtype, Refusal, BATCH_LIMIT};
 
@@ -113,4 +113,29 @@ pub fn append(buffer: &mut [u8], length: usize, batch: &[u8], retire: &[u64], ti
     })?;
     let [end, id, count] = out;
     Ok(Appended { end, id, count })
+}
+
+/// What a compaction reports.
+#[derive(Clone, Copy, Debug, PartialEq, Eq)]
+pub struct Compacted {
+    /// The fresh file's length.
+    pub end: u64,
+    /// The manifest's id, which is that of the old one, and how many entries its directory has.
+    pub id: u64,
+    pub count: u64,
+}
+
+/// Writes a fresh file to the front of the buffer: the live segments but the manifests, each as
+/// it is, and one manifest with the id and timestamp of the file's own. Vectors, components and
+/// the payloads of kept segments answer as before; later appends get the ids they would have got.
+///
+/// The fresh file never ends behind the end of the file's manifest, so a buffer of that length
+/// is never too short. Refuses 4 where a segment that would be copied does not agree with its
+/// hash: a copy would carry the damage on.
+pub fn compact(file: &[u8], buffer: &mut [u8]) -> Result<Compacted, Refusal> {
+    let mut out = [0; 3];
+    let (at, room) = (buffer.as_mut_ptr(), buffer.len());
+    accepted(unsafe { sys::rvf_compact(file.as_ptr(), file.len(), at, room, &mut out) })?;
+    let [end, id, count] = out;
+    Ok(Compacted { end, id, count })
 }

@@ -5,6 +5,9 @@
 #[cfg(feature = "append")]
 #[path = "bench/appending.rs"]
 mod appending;
+#[cfg(feature = "compact")]
+#[path = "bench/compacting.rs"]
+mod compacting;
 #[cfg(feature = "open")]
 #[path = "bench/files.rs"]
 mod files;
@@ -230,4 +233,6 @@ fn main() {
     files::lines();
     #[cfg(feature = "append")]
     appending::lines();
+    #[cfg(feature = "compact")]
+    compacting::lines();
 }

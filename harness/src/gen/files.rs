@@ -146,7 +146,7 @@ pub fn flags(rng: &mut Rng) -> u16 {
     rng.next() as u16 & segment::FLAGS
 }
 
-fn first_id(rng: &mut Rng) -> u64 {
+pub fn first_id(rng: &mut Rng) -> u64 {
     match rng.below(6) {
         0 => u64::MAX - rng.below(12) as u64,
         1 => rng.value(),

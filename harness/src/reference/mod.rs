@@ -1,4 +1,4 @@
-//! An independent implementation of document 01 in plain Rust. It was written from
+//! An independent implementation of documents 01 and 02 in plain Rust. It was written from
 //! the rules alone and shares nothing with the library it is compared with. It is
 //! also the speed baseline, so it copies nothing it need not copy.
 //!
@@ -6,6 +6,7 @@
 //! the error being the refusal number of document 01.
 
 pub mod append;
+pub mod compact;
 pub mod crc;
 pub mod idmap;
 pub mod lister;

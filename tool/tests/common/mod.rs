@@ -6,6 +6,7 @@
 
 pub mod cases;
 pub mod json;
+pub mod sectors;
 pub mod stores;
 
 use rvf::{Body, Component, Dtype, Encoding, Entry, Refusal, Vector, Vectors};
@@ -116,6 +117,17 @@ impl Place {
     }
 }
 
+/// A folder with a file in it and nothing else.
+pub fn alone(name: &str, file: &[u8]) -> Place {
+    let place = Place::new(name, file, b"");
+    std::fs::remove_file(&place.batch).expect("it is there");
+    place
+}
+
+pub fn compact(place: &Place, words: &[&str]) -> Ran {
+    rvf(&[&["compact", text(&place.file)], words].concat())
+}
+
 /// A small generator with a fixed seed, so that a failure comes back.
 pub struct Random(u64);
 
@@ -157,6 +169,23 @@ pub fn appended(file: &[u8], batch: &[u8], retire: &[u64], time: u64) -> Result<
     let end = rvf::append(&mut buffer, file.len(), batch, retire, time)?.end;
     buffer.truncate(end as usize);
     Ok(buffer)
+}
+
+/// The fresh file of a compaction, made in memory by the binding alone.
+pub fn compacted(file: &[u8]) -> Result<Vec<u8>, Refusal> {
+    let mut buffer = vec![0; file.len()];
+    let end = rvf::compact(file, &mut buffer)?.end;
+    buffer.truncate(end as usize);
+    Ok(buffer)
+}
+
+/// The names in the folder of a file, sorted.
+pub fn names_beside(path: &Path) -> Vec<String> {
+    let entries = std::fs::read_dir(path.parent().expect("a folder")).expect("it is there");
+    let mut names: Vec<String> =
+        entries.map(|entry| entry.expect("it is there").file_name().into_string().expect("text")).collect();
+    names.sort();
+    names
 }
 
 /// Where a file's manifest ends, 0 for an empty file.
