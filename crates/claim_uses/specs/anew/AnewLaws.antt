@@ -5,18 +5,18 @@ use mathlib.Core.Path.{_≡_, refl, sym, ap, subst, _∙_}
 use mathlib.Core.Option.{some}
 use mathlib.Core.List.{List, [], _∷_}
 use native.Mathlib.Omega.{arith}
-use lib.ListN.{length, take, getD, length-take}
+use lib.ListN.{length, take, length-take}
 use Rattle.octets.specs.le.Le.{Bytes}
-use Rattle.answers.specs.Answer.{Answer, Accepted, Refusal}
+use Rattle.answers.specs.Answer.{Accepted}
 use Rattle.segment.specs.chain.Chain.{Found}
 use Rattle.segment.specs.Header.{Link}
-use Rattle.manifest.specs.Opening.{opened, openAnswer, openedAnswer, openedCase}
+use Rattle.manifest.specs.Opening.{openAnswer, openedAnswer, openedCase}
 use Rattle.manifest.specs.declared.Opened as op
 use Rattle.manifest.specs.declared.Opened.the-variants as ops
 use Rattle.appending.specs.declared.Appended.{Appended}
 use Rattle.appending.specs.declared.Appended.the-variants as aps
-use Rattle.appending.specs.Append.{appendedAnswer, appendAnswer, Appends, Holds}
-use Rattle.compacting.specs.Compact.{freshFound, compactCase, compactedAnswer, compactBuffer}
+use Rattle.appending.specs.Append.{appendedAnswer, Appends, Holds}
+use Rattle.compacting.specs.Compact.{compactCase, compactedAnswer, compactBuffer}
 use Rattle.compacting.specs.Promise.{Compaction, writtenFile}
 use Rattle.compacting.specs.Theorem.{compacted}
 use Rattle.compacting.specs.declared.Compacted.{Compacted}
