@@ -20,6 +20,19 @@ fn decode_raw(s: &[u8], count: usize, ids: &mut [u64]) -> Wrote
     }
     let mut i: usize = 0;
     let mut prev: u64 = 0;
+    while count - i >= 4 {
+        let mut k: usize = 0;
+        while k < 4 {
+            let x = octets::le::u64_at(s, 7 + 8 * (i + k));
+            if !octets::numbers::follows(i + k, prev, x) {
+                return Wrote::Refused(5);
+            }
+            ids[i + k] = x;
+            prev = x;
+            k += 1;
+        }
+        i += 4;
+    }
     while i < count {
         let x = octets::le::u64_at(s, 7 + 8 * i);
         if !octets::numbers::follows(i, prev, x) {
