@@ -8,7 +8,8 @@ ghost use Rattle.idmap.specs.DecodeLaws.{Filled};
 ghost use Rattle.answers.specs.limits.Limits.{maxVectors};
 use answers::Wrote;
 
-// The ids of a raw map, whose head is read already.
+// The ids of a raw map, whose head is read already. Four a turn: a loop of one id is so short that its speed hangs on
+// where it is placed.
 fn decode_raw(s: &[u8], count: usize, ids: &mut [u64]) -> Wrote
     requires { ⌜ (count ≤ maxVectors) × (count ≤ length (now ids)) ⌝ }
     ensures answer { λ r. ⌜ r ≡ mapAnswer (rawMap count (now (s .entry))) ⌝ }

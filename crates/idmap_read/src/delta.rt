@@ -57,12 +57,12 @@ pub fn left_after(r: usize, left: usize) -> usize
     if left == 0 { r - 1 } else { left - 1 }
 }
 
-// How many groups have begun behind one id.
-fn group_after(left: usize, g: usize) -> usize
-    requires { ⌜ g ≤ maxVectors ⌝ }
-    ensures { λ x. ⌜ x ≡ groupAfter left g ⌝ }
+// Where the group that begins behind i ids ends: r ids on, or at the last id.
+fn group_end(i: usize, r: usize, count: usize) -> usize
+    requires { ⌜ (i < count) × (0 < r) ⌝ }
+    ensures { λ e. ⌜ ((i < e) × (e ≤ count)) × ((e ≤ i + r) × (e < count → e ≡ i + r)) ⌝ }
 {
-    if left == 0 { g + 1 } else { g }
+    if count - i <= r { count } else { i + r }
 }
 
 // The ids of a delta map with restarts every r, whose head is read already.
@@ -76,7 +76,6 @@ pub fn decode_delta(s: &[u8], count: usize, r: usize, ids: &mut [u64]) -> Wrote
         return Wrote::Refused(5);
     }
     let mut i: usize = 0;
-    let mut left: usize = 0;
     let mut prev: u64 = 0;
     let mut pos = start;
     let mut g: usize = 0;
@@ -85,16 +84,34 @@ pub fn decode_delta(s: &[u8], count: usize, r: usize, ids: &mut [u64]) -> Wrote
         match v {
             Varint::Refused(number) => return Wrote::Refused(number),
             Varint::Value { value, length } => {
-                let x = next_id(s, i, left, prev, pos - start, 7 + 4 * g, value);
+                let x = next_id(s, i, 0, prev, pos - start, 7 + 4 * g, value);
                 match x {
                     NextId::Refused(number) => return Wrote::Refused(number),
                     NextId::Id(id) => {
                         ids[i] = id;
                         prev = id;
                         pos += length;
-                        g = group_after(left, g);
-                        left = left_after(r, left);
-                        i += 1;
+                        g += 1;
+                    }
+                }
+            }
+        }
+        let stop = group_end(i, r, count);
+        i += 1;
+        while i < stop {
+            let v = varint::read_at(s, pos);
+            match v {
+                Varint::Refused(number) => return Wrote::Refused(number),
+                Varint::Value { value, length } => {
+                    let x = next_id(s, i, stop - i, prev, pos - start, 7 + 4 * g, value);
+                    match x {
+                        NextId::Refused(number) => return Wrote::Refused(number),
+                        NextId::Id(id) => {
+                            ids[i] = id;
+                            prev = id;
+                            pos += length;
+                            i += 1;
+                        }
                     }
                 }
             }

@@ -1,9 +1,11 @@
 -- The next id of a delta map, and the laws of the ways out of the step that finds it.
 -- Assumes nothing.
 use Prim.Native.Nat.{ℕ, suc, _+_, _-_, _*_, _^_, _≤_, _<_}
-use mathlib.Core.Path.{_≡_, refl, sym}
+use mathlib.Core.Path.{_≡_, refl, sym, _∙_}
 use mathlib.Core.Bool.{Bool, true, false, cond}
 use mathlib.Core.List.{List, []}
+use native.Mathlib.Nat.{suc-mul}
+use native.Mathlib.Numerals.{add-one}
 use native.Mathlib.Omega.{arith}
 use lib.Dec.{leb}
 use lib.ListN.{length, take, drop, set}
@@ -50,14 +52,53 @@ next-five left low at offs v e p = pick (idHeld left low at offs v) p
 -- a turn of the reading loop, by the answer of the step
 module _ (s : List ℕ) (count r start i left prev pos g : ℕ) (ids : List ℕ) (st : DeltaAt s count r start i left prev pos g ids) (h : i < count)
     (v k : ℕ) (p : readVarint (drop pos s) ≡ Value v k) where
-  pub turn-refused : (e : ℕ) → nextOf left (lowOf i prev) (pos - start) (drop (7 + 4 * g) s) v ≡ Refused e → readDeltas start r count 0 0 0 (drop 7 s) [] (drop start s) ≡ Broken
+  turn-refused : (e : ℕ) → nextOf left (lowOf i prev) (pos - start) (drop (7 + 4 * g) s) v ≡ Refused e → readDeltas start r count 0 0 0 (drop 7 s) [] (drop start s) ≡ Broken
   turn-refused e q = delta-refused s count r start i left prev pos g ids st h v k p (not-held _ _ _ _ _ e q)
 
-  pub turn-next : (x : ℕ) → nextOf left (lowOf i prev) (pos - start) (drop (7 + 4 * g) s) v ≡ Id x → 0 < r → i < length ids
+  turn-next : (x : ℕ) → nextOf left (lowOf i prev) (pos - start) (drop (7 + 4 * g) s) v ≡ Id x → 0 < r → i < length ids
       → DeltaAt s count r start (i + 1) (leftAfter r left) x (pos + k) (groupAfter left g) (set ids i x)
   turn-next x q hr room =
       let w = held _ _ _ _ _ x q in
       delta-next s count r start i left prev pos g ids st h v k p (w .0) hr room x (w .1)
+
+-- a difference is one whatever is left of its group
+next-difference : (left more low at : ℕ) (offs : List ℕ) (v : ℕ) → 0 < left → 0 < more → nextOf left low at offs v ≡ nextOf more low at offs v
+unfolding nextOf idHeld idOf
+next-difference left more low at offs v h k =
+    let l : left ≡ suc (left - 1) = omega arith in
+    let m : more ≡ suc (more - 1) = omega arith in
+    rw (l, m)
+
+-- the turns where g groups have begun: of a group's first id, behind which one more has, and of a difference
+module _ (s : List ℕ) (count r start i prev pos g : ℕ) (ids : List ℕ) (st : DeltaAt s count r start i (g * r - i) prev pos g ids) (h : i < count)
+    (v k : ℕ) (p : readVarint (drop pos s) ≡ Value v k) where
+  module _ (z : g * r - i ≡ 0) where
+    pub first-refused : (e : ℕ) → nextOf 0 (lowOf i prev) (pos - start) (drop (7 + 4 * g) s) v ≡ Refused e → readDeltas start r count 0 0 0 (drop 7 s) [] (drop start s) ≡ Broken
+    first-refused e q = turn-refused s count r start i 0 prev pos g ids (rw z at st) h v k p e q
+
+    pub first-next : (x : ℕ) → nextOf 0 (lowOf i prev) (pos - start) (drop (7 + 4 * g) s) v ≡ Id x → 0 < r → i < length ids
+        → DeltaAt s count r start (i + 1) ((g + 1) * r - (i + 1)) x (pos + k) (g + 1) (set ids i x)
+    unfolding leftAfter groupAfter
+    first-next x q hr room =
+        let group = st .group in
+        let e : (g + 1) * r - (i + 1) ≡ r - 1 = rw (add-one g, suc-mul g r) (omega arith) in
+        rw e (turn-next s count r start i 0 prev pos g ids (rw z at st) h v k p x q hr room)
+
+  module _ (inside : i < g * r) (left : ℕ) (some : 0 < left) where
+    one-less : g * r - i ≡ suc (g * r - (i + 1))
+    one-less = omega arith
+
+    pub inside-refused : (e : ℕ) → nextOf left (lowOf i prev) (pos - start) (drop (7 + 4 * g) s) v ≡ Refused e → readDeltas start r count 0 0 0 (drop 7 s) [] (drop start s) ≡ Broken
+    inside-refused e q =
+        turn-refused s count r start i (g * r - i) prev pos g ids st h v k p e
+        (next-difference (g * r - i) left _ _ _ _ (omega arith) some ∙ q)
+
+    pub inside-next : (x : ℕ) → nextOf left (lowOf i prev) (pos - start) (drop (7 + 4 * g) s) v ≡ Id x → 0 < r → i < length ids
+        → DeltaAt s count r start (i + 1) (g * r - (i + 1)) x (pos + k) g (set ids i x)
+    unfolding leftAfter groupAfter
+    inside-next x q hr room =
+        turn-next s count r start i (suc (g * r - (i + 1))) prev pos g ids (rw one-less at st) h v k p x
+        (next-difference (suc (g * r - (i + 1))) left _ _ _ _ (omega arith) some ∙ q) hr room
 
 -- the ways out of a group's first id
 module _ (left low at v : ℕ) (offs : List ℕ) (z : left ≡ 0) where
