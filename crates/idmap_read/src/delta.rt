@@ -5,7 +5,6 @@ ghost use lib.ListN.{length, drop};
 ghost use Rattle.idmap.specs.Encode.{leftAfter};
 ghost use Rattle.idmap.specs.Decode.{deltaMap, mapAnswer};
 ghost use Rattle.idmap.specs.DecodeLaws.{lowOf, Filled};
-ghost use Rattle.idmap.specs.DeltaLaws.{groupAfter};
 ghost use Rattle.idmap_read.specs.delta.Next.{nextOf};
 ghost use Rattle.answers.specs.limits.Limits.{maxVectors};
 use answers::Wrote;
@@ -65,7 +64,8 @@ fn group_end(i: usize, r: usize, count: usize) -> usize
     if count - i <= r { count } else { i + r }
 }
 
-// The ids of a delta map with restarts every r, whose head is read already.
+// The ids of a delta map with restarts every r, whose head is read already. A group's first id is read by itself, so
+// that the loop over its differences keeps what it needs in registers.
 pub fn decode_delta(s: &[u8], count: usize, r: usize, ids: &mut [u64]) -> Wrote
     requires { ⌜ (count ≤ maxVectors) × ((count ≤ length (now ids)) × ((0 < r) × (r < 65536))) ⌝ }
     ensures answer { λ a. ⌜ a ≡ mapAnswer (deltaMap r count (now (s .entry))) ⌝ }

@@ -100,6 +100,15 @@ module _ (s : List ℕ) (count r start i prev pos g : ℕ) (ids : List ℕ) (st 
         turn-next s count r start i (suc (g * r - (i + 1))) prev pos g ids (rw one-less at st) h v k p x
         (next-difference (suc (g * r - (i + 1))) left _ _ _ _ (omega arith) some ∙ q) hr room
 
+-- where the loop over the differences of a group stands, which ends at stop: a whole group on, or at the last id
+pub record GroupAt (s : List ℕ) (count r start i prev pos g stop : ℕ) (ids : List ℕ) : Type 0 where
+  pub at : DeltaAt s count r start i (g * r - i) prev pos g ids
+  pub inside : i ≤ stop
+  pub most : stop ≤ count
+  pub ends : stop ≤ g * r
+  pub full : stop < count → stop ≡ g * r
+  pub room : count ≤ length ids
+
 -- the ways out of a group's first id
 module _ (left low at v : ℕ) (offs : List ℕ) (z : left ≡ 0) where
   pub next-place : (leOf (take 4 offs) ≡ at → ⊥) → Refused 5 ≡ nextOf left low at offs v

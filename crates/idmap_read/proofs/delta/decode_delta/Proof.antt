@@ -11,17 +11,16 @@ use Rattle.varint.specs.Refusal.{refused-five}
 use Rattle.idmap.specs.Decode.{groups}
 use Rattle.idmap.specs.DecodeLaws.{broken, broken-by, whole}
 use Rattle.idmap.specs.DeltaLaws.{DeltaAt, delta-first, delta-restart, delta-bad, delta-inside, delta-last, delta-short, delta-room, groups-few}
-use Rattle.idmap_read.specs.delta.Next.{next-five, first-refused, first-next, inside-refused, inside-next}
+use Rattle.idmap_read.specs.delta.Next.{GroupAt, next-five, first-refused, first-next, inside-refused, inside-next}
 use borrow.Author.Needs.{needs}
 use Rattle.idmap_read.proofs.delta.decode_delta.Statement.{statement}
 use Rattle.idmap_read.proofs.delta.decode_delta.Tie as tie
 
--- in a group, which ends at stop
+-- in a group
 abbrev Inv-loop2 : tie.InvT-loop2
 Inv-loop2 s count r ids₀ start i₀ prev₀ pos₀ g stop ids i prev pos =
-    DeltaAt s count r start i (g * r - i) prev pos g ids
-    × (((stop ≤ count) × ((stop ≤ g * r) × (stop < count → stop ≡ g * r)))
-    × (((i₀ ≤ i) × (i ≤ stop)) × ((length ids ≡ length ids₀) × ((count ≤ length ids) × ((length s < 2 ^ 64) × (count ≤ maxVectors))))))
+    GroupAt s count r start i prev pos g stop ids
+    × (((i₀ ≤ i) × (length ids ≡ length ids₀)) × ((length s < 2 ^ 64) × (count ≤ maxVectors)))
 
 abbrev μ-loop2 : tie.MeasureT-loop2
 μ-loop2 s count r ids₀ start i₀ prev₀ pos₀ g stop ids i prev pos = stop - i
@@ -113,20 +112,29 @@ loop2-holds c =
     let group = l .loop .inv .0 .group in
     let m : (l .loop .g + 1) * l .before .before .before .before .args .r ≡ l .loop .g * l .before .before .before .before .args .r + l .before .before .before .before .args .r =
     rw add-one (suc-mul _ _) in
-    let e = c .group-end .ensures in
-    (n, ((omega arith, (omega arith, λ h. omega (arith, e .1 .1 h))), ((omega arith, omega arith), (refl, (rw length-set (omega arith), (omega arith, omega arith))))))
+    let e = c .group-end .ensures in (
+      record {
+        at = n;
+        inside = omega arith;
+        most = omega arith;
+        ends = omega arith;
+        full = λ h. omega (arith, e .1 .1 h);
+        room = rw length-set (omega arith);
+      },
+      ((omega arith, refl), (omega arith, omega arith)),
+    )
 
 loop-again : tie.Need-loop-again Inv-loop2 μ-loop2 Inv-loop μ-loop
 loop-again c =
     let l = c .before .loop2 in
     let o = c .before .before .before .before .before .before .before .before .before .before .before .before .loop in
-    (l .inv .0, ((λ h. omega (arith, l .inv .1 .0 .1 .1 (omega arith))), l .inv .1 .1 .1 .0 ∙ rw length-set (o .inv .1 .1)))
+    (l .inv .0 .at, ((λ h. omega (arith, l .inv .0 .full (omega arith))), l .inv .1 .0 .1 ∙ rw length-set (o .inv .1 .1)))
 
 same-length-3 : tie.Need-same-length-3 Inv-loop2 μ-loop2 Inv-loop μ-loop
 same-length-3 c =
     let l = c .before .before .before .before .before in
     let o = l .before .before .before .before .before .before .before .before .before .before .before .loop in
-    l .loop2 .inv .1 .1 .1 .0 ∙ rw length-set (o .inv .1 .1)
+    l .loop2 .inv .1 .0 .1 ∙ rw length-set (o .inv .1 .1)
 
 returns-4 : tie.Need-returns-4 Inv-loop2 μ-loop2 Inv-loop μ-loop
 unfolding groups
@@ -137,30 +145,30 @@ returns-4 c =
     let e = sym (v .before .before .read-at2 .ensures) ∙ v .v3 .given .1 in
     broken-by _ _ _ (refused-five _ _ e)
     (delta-room (s .args .r) _ _ (omega arith)
-    ∙ delta-bad _ _ _ _ _ _ _ _ _ _ (l .loop2 .inv .0) (omega arith) (v .v3 .given .0 .0) e)
+    ∙ delta-bad _ _ _ _ _ _ _ _ _ _ (l .loop2 .inv .0 .at) (omega arith) (v .v3 .given .0 .0) e)
 
 sub-next-id-2 : tie.Need-sub-next-id-2 Inv-loop2 μ-loop2 Inv-loop μ-loop
 sub-next-id-2 c = search needs
 
 sub-next-id-3 : tie.Need-sub-next-id-3 Inv-loop2 μ-loop2 Inv-loop μ-loop
-sub-next-id-3 c = let behind = c .before .before .before .before .before .loop2 .inv .0 .behind in omega arith
+sub-next-id-3 c = let behind = c .before .before .before .before .before .loop2 .inv .0 .at .behind in omega arith
 
 mul-next-id-2 : tie.Need-mul-next-id-2 Inv-loop2 μ-loop2 Inv-loop μ-loop
-mul-next-id-2 c = let begun = c .before .before .before .before .before .loop2 .inv .0 .begun in omega arith
+mul-next-id-2 c = let begun = c .before .before .before .before .before .loop2 .inv .0 .at .begun in omega arith
 
 add-next-id-2 : tie.Need-add-next-id-2 Inv-loop2 μ-loop2 Inv-loop μ-loop
-add-next-id-2 c = let begun = c .before .before .before .before .before .loop2 .inv .0 .begun in omega arith
+add-next-id-2 c = let begun = c .before .before .before .before .before .loop2 .inv .0 .at .begun in omega arith
 
 next-id-requires-2 : tie.Need-next-id-requires-2 Inv-loop2 μ-loop2 Inv-loop μ-loop
 next-id-requires-2 c κs =
     let l = c .before .before .before .before .before .loop2 in
-    ((λ z. omega arith), λ z. absurd (let f = l .inv .0 .first z in omega arith))
+    ((λ z. omega arith), λ z. absurd (let f = l .inv .0 .at .first z in omega arith))
 
 same-length-4 : tie.Need-same-length-4 Inv-loop2 μ-loop2 Inv-loop μ-loop
 same-length-4 c =
     let l = c .before .before .before .before .before .before .before .before .before in
     let o = l .before .before .before .before .before .before .before .before .before .before .before .loop in
-    l .loop2 .inv .1 .1 .1 .0 ∙ rw length-set (o .inv .1 .1)
+    l .loop2 .inv .1 .0 .1 ∙ rw length-set (o .inv .1 .1)
 
 returns-5 : tie.Need-returns-5 Inv-loop2 μ-loop2 Inv-loop μ-loop
 unfolding groups
@@ -172,7 +180,7 @@ returns-5 c =
     let e = sym (x .before .before .next-id2 .ensures) ∙ x .x3 .given .1 in
     broken-by _ _ _ (next-five _ _ _ _ _ _ e)
     (delta-room (s .args .r) _ _ (omega arith)
-    ∙ inside-refused _ _ _ _ _ _ _ _ _ (l .loop2 .inv .0) (omega arith) (v .v4 .given .0 .0) (v .v4 .given .0 .1 .0)
+    ∙ inside-refused _ _ _ _ _ _ _ _ _ (l .loop2 .inv .0 .at) (omega arith) (v .v4 .given .0 .0) (v .v4 .given .0 .1 .0)
     (sym (v .before .before .read-at2 .ensures) ∙ v .v4 .given .1) (omega arith) _ (omega arith) (x .x3 .given .0 .0) e)
 
 add-pos-2 : tie.Need-add-pos-2 Inv-loop2 μ-loop2 Inv-loop μ-loop
@@ -180,7 +188,7 @@ add-pos-2 c =
     let v = c .before .before .before .before .before in
     omega (
       arith,
-      delta-inside _ _ _ _ _ _ _ _ _ _ (v .before .before .before .before .loop2 .inv .0) (omega arith)
+      delta-inside _ _ _ _ _ _ _ _ _ _ (v .before .before .before .before .loop2 .inv .0 .at) (omega arith)
           (v .v4 .given .0 .0) (v .v4 .given .0 .1 .0) (sym (v .before .before .read-at2 .ensures) ∙ v .v4 .given .1),
     )
 
@@ -191,10 +199,17 @@ loop2-again c =
     let l = v .before .before .before .before .loop2 in
     let s = v .before .before .before .before .before .before .before .before .before .before .before .before .before .before .before .before .before .before .before in
     let n = length-set (l .ids) (l .i) (x .x4 .given .0 .0) in (
-      inside-next _ _ _ _ _ _ _ _ _ (l .inv .0) (omega arith) (v .v4 .given .0 .0) (v .v4 .given .0 .1 .0)
-          (sym (v .before .before .read-at2 .ensures) ∙ v .v4 .given .1) (omega arith) _ (omega arith) (x .x4 .given .0 .0)
-          (sym (x .before .before .next-id2 .ensures) ∙ x .x4 .given .1) (s .pre .1 .1 .0) (omega arith),
-      (l .inv .1 .0, ((omega arith, omega arith), (n ∙ l .inv .1 .1 .1 .0, (omega arith, l .inv .1 .1 .1 .1 .1)))),
+      record {
+        at = inside-next _ _ _ _ _ _ _ _ _ (l .inv .0 .at) (omega arith) (v .v4 .given .0 .0) (v .v4 .given .0 .1 .0)
+            (sym (v .before .before .read-at2 .ensures) ∙ v .v4 .given .1) (omega arith) _ (omega arith) (x .x4 .given .0 .0)
+            (sym (x .before .before .next-id2 .ensures) ∙ x .x4 .given .1) (s .pre .1 .1 .0) (omega arith);
+        inside = omega arith;
+        most = l .inv .0 .most;
+        ends = l .inv .0 .ends;
+        full = l .inv .0 .full;
+        room = omega arith;
+      },
+      ((omega arith, n ∙ l .inv .1 .0 .1), l .inv .1 .1),
     )
 
 returns-6 : tie.Need-returns-6 Inv-loop2 μ-loop2 Inv-loop μ-loop
