@@ -96,4 +96,9 @@ pub decode-raw-spec : {M : Type 1} → statement M
 decode-raw-spec =
     tie.close
     (tie.spec
-    Inv-loop2 μ-loop2 Inv-loop μ-loop Inv-loop3 μ-loop3 (search needs) (search needs) returns loop-holds sub-loop loop2-holds (search needs) (search needs) (search needs) (search needs) (search needs) (search needs) (search needs) returns-2 (search needs) (search needs) (search needs) (search needs) (search needs) loop2-again (search needs) (search needs) loop-again loop3-holds (search needs) (search needs) (search needs) (search needs) (search needs) returns-3 (search needs) (search needs) (search needs) (search needs) loop3-again (search needs) returns-4)
+    Inv-loop2 μ-loop2 Inv-loop μ-loop Inv-loop3 μ-loop3 (search needs) (search needs) returns loop-holds
+    sub-loop loop2-holds (search needs) (search needs) (search needs) (search needs) (search needs)
+    (search needs) (search needs) returns-2 (search needs) (search needs) (search needs) (search needs)
+    (search needs) loop2-again (search needs) (search needs) loop-again loop3-holds (search needs)
+    (search needs) (search needs) (search needs) (search needs) returns-3 (search needs) (search needs)
+    (search needs) (search needs) loop3-again (search needs) returns-4)

@@ -7,11 +7,10 @@ use native.Mathlib.Numerals.{add-one}
 use native.Mathlib.Omega.{arith}
 use lib.ListN.{length, length-set}
 use Rattle.answers.specs.limits.Limits.{maxVectors}
-use Rattle.varint.specs.Refusal.{refused-five}
 use Rattle.idmap.specs.Decode.{groups}
 use Rattle.idmap.specs.DecodeLaws.{broken, broken-by, whole}
-use Rattle.idmap.specs.DeltaLaws.{DeltaAt, delta-first, delta-restart, delta-bad, delta-inside, delta-last, delta-short, delta-room, groups-few}
-use Rattle.idmap_read.specs.delta.Next.{GroupAt, next-five, first-refused, first-next, inside-refused, inside-next}
+use Rattle.idmap.specs.DeltaLaws.{DeltaAt, delta-first, delta-restart, delta-last, delta-short, delta-room, groups-few}
+use Rattle.idmap_read.specs.delta.Next.{GroupAt, first-refused, first-next, inside-refused, inside-next}
 use borrow.Author.Needs.{needs}
 use Rattle.idmap_read.proofs.delta.decode_delta.Statement.{statement}
 use Rattle.idmap_read.proofs.delta.decode_delta.Tie as tie
@@ -50,68 +49,46 @@ loop-holds c =
     let none : 0 * c .before .before .before .args .r - 0 ≡ 0 = omega arith in
     (rw none (delta-first _ _ _ _ _ (omega arith)), ((λ h. omega arith), refl))
 
+id-at-requires : tie.Need-id-at-requires Inv-loop2 μ-loop2 Inv-loop μ-loop
+unfolding groups
+id-at-requires c κs =
+    let l = c .before .loop in
+    let z = l .inv .1 .0 (omega arith) in
+    let restart = delta-restart _ _ _ _ _ _ _ _ _ _ (l .inv .0) (omega arith) (omega arith) z in
+    let begun = l .inv .0 .begun in
+    (((λ e. omega (arith, restart)), λ e. refl), (l .inv .0 .behind, omega arith))
+
 returns-2 : tie.Need-returns-2 Inv-loop2 μ-loop2 Inv-loop μ-loop
 unfolding groups
 returns-2 c =
-    let v = c .before in
-    let l = v .before .before .before .before in
-    let e = sym (v .before .before .read-at .ensures) ∙ v .v .given .1 in
-    broken-by _ _ _ (refused-five _ _ e)
-    (delta-room (l .before .before .before .before .args .r) _ _ (omega arith)
-    ∙ delta-bad _ _ _ _ _ _ _ _ _ _ (l .loop .inv .0) (omega arith) (v .v .given .0 .0) e)
-
-sub-next-id : tie.Need-sub-next-id Inv-loop2 μ-loop2 Inv-loop μ-loop
-sub-next-id c = let behind = c .before .before .before .before .before .loop .inv .0 .behind in omega arith
-
-mul-next-id : tie.Need-mul-next-id Inv-loop2 μ-loop2 Inv-loop μ-loop
-mul-next-id c = let begun = c .before .before .before .before .before .loop .inv .0 .begun in omega arith
-
-add-next-id : tie.Need-add-next-id Inv-loop2 μ-loop2 Inv-loop μ-loop
-add-next-id c = let begun = c .before .before .before .before .before .loop .inv .0 .begun in omega arith
-
-next-id-requires : tie.Need-next-id-requires Inv-loop2 μ-loop2 Inv-loop μ-loop
-unfolding groups
-next-id-requires c κs =
-    let l = c .before .before .before .before .before in
-    let restart = delta-restart _ _ _ _ _ _ _ _ _ _ (l .loop .inv .0) (omega arith) (omega arith) (l .loop .inv .1 .0 (omega arith)) in
-    ((λ z. omega (arith, restart)), λ z. refl)
-
-returns-3 : tie.Need-returns-3 Inv-loop2 μ-loop2 Inv-loop μ-loop
-unfolding groups
-returns-3 c =
     let x = c .before in
-    let v = x .before .before .before .before in
-    let l = v .before .before .before .before in
-    let e = sym (x .before .before .next-id .ensures) ∙ x .x .given .1 in
-    broken-by _ _ _ (next-five _ _ _ _ _ _ e)
-    (delta-room (l .before .before .before .before .args .r) _ _ (omega arith)
-    ∙ first-refused _ _ _ _ _ _ _ _ _ (l .loop .inv .0) (omega arith) (v .v2 .given .0 .0) (v .v2 .given .0 .1 .0)
-    (sym (v .before .before .read-at .ensures) ∙ v .v2 .given .1) (l .loop .inv .1 .0 (omega arith)) (x .x .given .0 .0) e)
+    let l = x .before .before .before .before in
+    let w = first-refused _ _ _ _ _ _ _ _ _ (l .loop .inv .0) (omega arith) (l .loop .inv .1 .0 (omega arith)) (x .x .given .0 .0)
+    (sym (x .before .before .id-at .ensures) ∙ x .x .given .1) in
+    broken-by _ _ _ (w .0) (delta-room (l .before .before .before .before .args .r) _ _ (omega arith) ∙ w .1)
 
 add-pos : tie.Need-add-pos Inv-loop2 μ-loop2 Inv-loop μ-loop
 add-pos c =
-    let v = c .before .before .before .before .before in
-    omega (
-      arith,
-      delta-inside _ _ _ _ _ _ _ _ _ _ (v .before .before .before .before .loop .inv .0) (omega arith)
-          (v .v2 .given .0 .0) (v .v2 .given .0 .1 .0) (sym (v .before .before .read-at .ensures) ∙ v .v2 .given .1),
-    )
+    let x = c .before in
+    let l = x .before .before .before .before in
+    let n = first-next _ _ _ _ _ _ _ _ _ (l .loop .inv .0) (omega arith) (l .loop .inv .1 .0 (omega arith)) (x .x2 .given .0 .0)
+    (x .x2 .given .0 .1 .0) (sym (x .before .before .id-at .ensures) ∙ x .x2 .given .1) (omega arith) (omega arith) in
+    let fits = n .inside in
+    omega arith
 
 add-g : tie.Need-add-g Inv-loop2 μ-loop2 Inv-loop μ-loop
-add-g c = let begun = c .before .before .before .before .before .before .before .before .before .loop .inv .0 .begun in omega arith
+add-g c = let begun = c .before .before .before .before .before .before .loop .inv .0 .begun in omega arith
 
 loop2-holds : tie.Need-loop2-holds Inv-loop2 μ-loop2 Inv-loop μ-loop
 loop2-holds c =
     let x = c .before .before in
-    let v = x .before .before .before .before in
-    let l = v .before .before .before .before in
+    let l = x .before .before .before .before in
+    let r = l .before .before .before .before .args .r in
+    let n = first-next _ _ _ _ _ _ _ _ _ (l .loop .inv .0) (omega arith) (l .loop .inv .1 .0 (omega arith)) (x .x2 .given .0 .0)
+    (x .x2 .given .0 .1 .0) (sym (x .before .before .id-at .ensures) ∙ x .x2 .given .1) (omega arith) (omega arith) in
     let z = l .loop .inv .1 .0 (omega arith) in
-    let n = first-next _ _ _ _ _ _ _ _ _ (l .loop .inv .0) (omega arith) (v .v2 .given .0 .0) (v .v2 .given .0 .1 .0)
-    (sym (v .before .before .read-at .ensures) ∙ v .v2 .given .1) z (x .x2 .given .0 .0)
-    (sym (x .before .before .next-id .ensures) ∙ x .x2 .given .1) (omega arith) (omega arith) in
     let group = l .loop .inv .0 .group in
-    let m : (l .loop .g + 1) * l .before .before .before .before .args .r ≡ l .loop .g * l .before .before .before .before .args .r + l .before .before .before .before .args .r =
-    rw add-one (suc-mul _ _) in
+    let m : (l .loop .g + 1) * r ≡ l .loop .g * r + r = rw add-one (suc-mul _ _) in
     let e = c .group-end .ensures in (
       record {
         at = n;
@@ -126,95 +103,64 @@ loop2-holds c =
 
 loop-again : tie.Need-loop-again Inv-loop2 μ-loop2 Inv-loop μ-loop
 loop-again c =
+    let l = c .before in (
+      l .loop2 .inv .0 .at,
+      ((λ h. omega (arith, l .loop2 .inv .0 .full (omega arith))), l .loop2 .inv .1 .0 .1 ∙ rw length-set (l .before .before .before .before .before .before .before .loop .inv .1 .1)),
+    )
+
+id-at-requires-2 : tie.Need-id-at-requires-2 Inv-loop2 μ-loop2 Inv-loop μ-loop
+id-at-requires-2 c κs =
     let l = c .before .loop2 in
-    let o = c .before .before .before .before .before .before .before .before .before .before .before .before .loop in
-    (l .inv .0 .at, ((λ h. omega (arith, l .inv .0 .full (omega arith))), l .inv .1 .0 .1 ∙ rw length-set (o .inv .1 .1)))
+    let begun = l .inv .0 .at .begun in
+    (((λ e. omega arith), λ e. absurd (let f = l .inv .0 .at .first e in omega arith)), (l .inv .0 .at .behind, omega arith))
 
-same-length-3 : tie.Need-same-length-3 Inv-loop2 μ-loop2 Inv-loop μ-loop
-same-length-3 c =
+same-length-2 : tie.Need-same-length-2 Inv-loop2 μ-loop2 Inv-loop μ-loop
+same-length-2 c =
     let l = c .before .before .before .before .before in
-    let o = l .before .before .before .before .before .before .before .before .before .before .before .loop in
-    l .loop2 .inv .1 .0 .1 ∙ rw length-set (o .inv .1 .1)
+    l .loop2 .inv .1 .0 .1 ∙ rw length-set (l .before .before .before .before .before .before .before .loop .inv .1 .1)
 
-returns-4 : tie.Need-returns-4 Inv-loop2 μ-loop2 Inv-loop μ-loop
+returns-3 : tie.Need-returns-3 Inv-loop2 μ-loop2 Inv-loop μ-loop
 unfolding groups
-returns-4 c =
-    let v = c .before in
-    let l = v .before .before .before .before in
-    let s = l .before .before .before .before .before .before .before .before .before .before .before .before .before .before .before in
-    let e = sym (v .before .before .read-at2 .ensures) ∙ v .v3 .given .1 in
-    broken-by _ _ _ (refused-five _ _ e)
-    (delta-room (s .args .r) _ _ (omega arith)
-    ∙ delta-bad _ _ _ _ _ _ _ _ _ _ (l .loop2 .inv .0 .at) (omega arith) (v .v3 .given .0 .0) e)
-
-sub-next-id-2 : tie.Need-sub-next-id-2 Inv-loop2 μ-loop2 Inv-loop μ-loop
-sub-next-id-2 c = search needs
-
-sub-next-id-3 : tie.Need-sub-next-id-3 Inv-loop2 μ-loop2 Inv-loop μ-loop
-sub-next-id-3 c = let behind = c .before .before .before .before .before .loop2 .inv .0 .at .behind in omega arith
-
-mul-next-id-2 : tie.Need-mul-next-id-2 Inv-loop2 μ-loop2 Inv-loop μ-loop
-mul-next-id-2 c = let begun = c .before .before .before .before .before .loop2 .inv .0 .at .begun in omega arith
-
-add-next-id-2 : tie.Need-add-next-id-2 Inv-loop2 μ-loop2 Inv-loop μ-loop
-add-next-id-2 c = let begun = c .before .before .before .before .before .loop2 .inv .0 .at .begun in omega arith
-
-next-id-requires-2 : tie.Need-next-id-requires-2 Inv-loop2 μ-loop2 Inv-loop μ-loop
-next-id-requires-2 c κs =
-    let l = c .before .before .before .before .before .loop2 in
-    ((λ z. omega arith), λ z. absurd (let f = l .inv .0 .at .first z in omega arith))
-
-same-length-4 : tie.Need-same-length-4 Inv-loop2 μ-loop2 Inv-loop μ-loop
-same-length-4 c =
-    let l = c .before .before .before .before .before .before .before .before .before in
-    let o = l .before .before .before .before .before .before .before .before .before .before .before .loop in
-    l .loop2 .inv .1 .0 .1 ∙ rw length-set (o .inv .1 .1)
-
-returns-5 : tie.Need-returns-5 Inv-loop2 μ-loop2 Inv-loop μ-loop
-unfolding groups
-returns-5 c =
+returns-3 c =
     let x = c .before in
-    let v = x .before .before .before .before in
-    let l = v .before .before .before .before in
-    let s = l .before .before .before .before .before .before .before .before .before .before .before .before .before .before .before in
-    let e = sym (x .before .before .next-id2 .ensures) ∙ x .x3 .given .1 in
-    broken-by _ _ _ (next-five _ _ _ _ _ _ e)
-    (delta-room (s .args .r) _ _ (omega arith)
-    ∙ inside-refused _ _ _ _ _ _ _ _ _ (l .loop2 .inv .0 .at) (omega arith) (v .v4 .given .0 .0) (v .v4 .given .0 .1 .0)
-    (sym (v .before .before .read-at2 .ensures) ∙ v .v4 .given .1) (omega arith) _ (omega arith) (x .x3 .given .0 .0) e)
+    let l = x .before .before .before .before in
+    let s = l .before .before .before .before .before .before .before .before .before .before .before in
+    let w = inside-refused _ _ _ _ _ _ _ _ _ (l .loop2 .inv .0 .at) (omega arith) (omega arith) _ (omega arith) (x .x3 .given .0 .0)
+    (sym (x .before .before .id-at2 .ensures) ∙ x .x3 .given .1) in
+    broken-by _ _ _ (w .0) (delta-room (s .args .r) _ _ (omega arith) ∙ w .1)
 
 add-pos-2 : tie.Need-add-pos-2 Inv-loop2 μ-loop2 Inv-loop μ-loop
 add-pos-2 c =
-    let v = c .before .before .before .before .before in
-    omega (
-      arith,
-      delta-inside _ _ _ _ _ _ _ _ _ _ (v .before .before .before .before .loop2 .inv .0 .at) (omega arith)
-          (v .v4 .given .0 .0) (v .v4 .given .0 .1 .0) (sym (v .before .before .read-at2 .ensures) ∙ v .v4 .given .1),
-    )
+    let x = c .before in
+    let l = x .before .before .before .before in
+    let n = inside-next _ _ _ _ _ _ _ _ _ (l .loop2 .inv .0 .at) (omega arith) (omega arith) _ (omega arith) (x .x4 .given .0 .0)
+    (x .x4 .given .0 .1 .0) (sym (x .before .before .id-at2 .ensures) ∙ x .x4 .given .1)
+    (l .before .before .before .before .before .before .before .before .before .before .before .pre .1 .1 .0) (omega arith) in
+    let fits = n .inside in
+    omega arith
 
 loop2-again : tie.Need-loop2-again Inv-loop2 μ-loop2 Inv-loop μ-loop
 loop2-again c =
     let x = c .before in
-    let v = x .before .before .before .before in
-    let l = v .before .before .before .before .loop2 in
-    let s = v .before .before .before .before .before .before .before .before .before .before .before .before .before .before .before .before .before .before .before in
-    let n = length-set (l .ids) (l .i) (x .x4 .given .0 .0) in (
+    let l = x .before .before .before .before in
+    let n = inside-next _ _ _ _ _ _ _ _ _ (l .loop2 .inv .0 .at) (omega arith) (omega arith) _ (omega arith) (x .x4 .given .0 .0)
+    (x .x4 .given .0 .1 .0) (sym (x .before .before .id-at2 .ensures) ∙ x .x4 .given .1)
+    (l .before .before .before .before .before .before .before .before .before .before .before .pre .1 .1 .0) (omega arith) in
+    let m = length-set (l .loop2 .ids) (l .loop2 .i) (x .x4 .given .0 .0) in (
       record {
-        at = inside-next _ _ _ _ _ _ _ _ _ (l .inv .0 .at) (omega arith) (v .v4 .given .0 .0) (v .v4 .given .0 .1 .0)
-            (sym (v .before .before .read-at2 .ensures) ∙ v .v4 .given .1) (omega arith) _ (omega arith) (x .x4 .given .0 .0)
-            (sym (x .before .before .next-id2 .ensures) ∙ x .x4 .given .1) (s .pre .1 .1 .0) (omega arith);
+        at = n;
         inside = omega arith;
-        most = l .inv .0 .most;
-        ends = l .inv .0 .ends;
-        full = l .inv .0 .full;
+        most = l .loop2 .inv .0 .most;
+        ends = l .loop2 .inv .0 .ends;
+        full = l .loop2 .inv .0 .full;
         room = omega arith;
       },
-      ((omega arith, n ∙ l .inv .1 .0 .1), l .inv .1 .1),
+      ((omega arith, m ∙ l .loop2 .inv .1 .0 .1), l .loop2 .inv .1 .1),
     )
 
-returns-6 : tie.Need-returns-6 Inv-loop2 μ-loop2 Inv-loop μ-loop
+returns-4 : tie.Need-returns-4 Inv-loop2 μ-loop2 Inv-loop μ-loop
 unfolding groups
-returns-6 c =
+returns-4 c =
     let s = c .before .before .before .before .before in
     whole _ _ (s .args .count) (c .before .loop .ids)
     (delta-room (s .args .r) _ _ (omega arith) ∙ delta-last _ _ _ _ _ _ _ _ _ _ (c .before .loop .inv .0)
@@ -224,4 +170,8 @@ pub decode-delta-spec : {M : Type 1} → statement M
 decode-delta-spec =
     tie.close
     (tie.spec
-    Inv-loop2 μ-loop2 Inv-loop μ-loop (search needs) (search needs) (search needs) mul-start add-start-2 returns loop-holds (search needs) (search needs) (search needs) returns-2 (search needs) sub-next-id mul-next-id add-next-id next-id-requires (search needs) (search needs) returns-3 (search needs) (search needs) (search needs) add-pos add-g (search needs) (search needs) loop2-holds (search needs) loop-again (search needs) (search needs) same-length-3 returns-4 (search needs) sub-next-id-2 sub-next-id-3 mul-next-id-2 add-next-id-2 next-id-requires-2 (search needs) same-length-4 returns-5 (search needs) (search needs) (search needs) add-pos-2 (search needs) (search needs) loop2-again (search needs) returns-6)
+    Inv-loop2 μ-loop2 Inv-loop μ-loop (search needs) (search needs) (search needs) mul-start add-start-2
+    returns loop-holds id-at-requires (search needs) (search needs) returns-2 (search needs) (search needs)
+    (search needs) add-pos (search needs) add-g (search needs) loop2-holds (search needs) loop-again
+    (search needs) id-at-requires-2 (search needs) same-length-2 returns-3 (search needs) (search needs)
+    (search needs) add-pos-2 (search needs) (search needs) loop2-again (search needs) returns-4)
