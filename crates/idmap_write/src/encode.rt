@@ -5,6 +5,7 @@ ghost use mathlib.Core.List.{_++_};
 ghost use Prim.Native.Nat.{_+_, _*_, _≤_, _<_};
 ghost use lib.ListN.{length};
 ghost use Rattle.octets.specs.Over.{over};
+ghost use Rattle.varint.specs.Varint.{varintOf};
 ghost use Rattle.idmap.specs.Encode.{mapHead, rawIds, deltaOf, deltas, restartOf, restarts, risesFrom};
 ghost use Rattle.answers.specs.limits.Limits.{maxVectors};
 
@@ -42,6 +43,22 @@ fn delta(left: usize, prev: u64, x: u64) -> u64
     x - prev
 }
 
+// How many bytes stand for an id. Differences of one and of two bytes come in no order, so the choice between them is
+// no branch.
+fn delta_len(left: usize, prev: u64, x: u64) -> usize
+    requires { ⌜ ((left ≡ 0 → ⊥) → prev ≤ x) ⌝ }
+    ensures { λ n. ⌜ (n ≡ length (varintOf (deltaOf left prev x))) × (n ≤ 10) ⌝ }
+{
+    if left == 0 {
+        return varint::write::encoded_len(x);
+    }
+    let d = x - prev;
+    if d >= 16384 {
+        return varint::write::encoded_len(d);
+    }
+    if d < 128 { 1 } else { 2 }
+}
+
 // How many bytes the varints of rising ids take.
 pub fn deltas_len(ids: &[u64], r: usize) -> usize
     requires { ⌜ (length (now ids) ≤ maxVectors) × ((0 < r) × (risesFrom 0 (now ids) ≡ true)) ⌝ }
@@ -53,8 +70,7 @@ pub fn deltas_len(ids: &[u64], r: usize) -> usize
     let mut total: usize = 0;
     while i < ids.len() {
         let x = ids[i];
-        let d = delta(left, prev, x);
-        total += varint::write::encoded_len(d);
+        total += delta_len(left, prev, x);
         left = idmap_read::delta::left_after(r, left);
         prev = x;
         i += 1;
@@ -92,8 +108,8 @@ pub fn put_deltas(buf: &mut [u8], ids: &[u64], r: usize, start: usize)
         let x = ids[i];
         let d = delta(left, prev, x);
         place = put_restart(buf, place, left, pos - start);
-        pos = varint::write::put(buf, pos, d);
         left = idmap_read::delta::left_after(r, left);
+        pos = varint::write::put(buf, pos, d);
         prev = x;
         i += 1;
     }

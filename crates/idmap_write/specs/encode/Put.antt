@@ -1,6 +1,6 @@
 -- Where the loops stand that measure and write an id map, their next turns and their ends.
 -- Assumes nothing.
-use Prim.Native.Nat.{ℕ, _+_, _-_, _*_, _≤_, _<_}
+use Prim.Native.Nat.{ℕ, suc, _+_, _-_, _*_, _/_, _≤_, _<_}
 use mathlib.Core.Path.{_≡_, refl, sym, ap, _∙_}
 use mathlib.Core.List.{List, [], _∷_, _++_, append-assoc, append-nil}
 use native.Mathlib.Omega.{arith}
@@ -11,6 +11,7 @@ use Rattle.octets.specs.OverLaws.{over-none, over-front, over-then, over-swap, 
 use Rattle.octets.specs.le.Le.{leBytes}
 use Rattle.octets.specs.le.Laws.{length-leBytes}
 use Rattle.varint.specs.Varint.{varintOf}
+use Rattle.varint.specs.Write.{leb-last, leb-more}
 use Rattle.idmap.specs.Encode.{mapHead, rawIds, deltaOf, leftAfter, deltas, restartOf, restarts}
 use Rattle.idmap.specs.EncodeLaws.{IdsAt, ids-next, length-rawIds, raw-more, deltas-cons, restarts-cons, deltas-none, restarts-none}
 
@@ -40,6 +41,23 @@ pub raw-last : (buf₀ buf ids : List ℕ) (i : ℕ) → RawPut buf₀ buf ids i
 raw-last buf₀ buf ids i st h = rw (take-all i ids h) at (st .laid)
 
 -- ---- how many bytes the varints take
+
+module _ (left prev x n : ℕ) where
+  pub begins-len : left ≡ 0 → (n ≡ length (varintOf x)) × (n ≤ 10) → (n ≡ length (varintOf (deltaOf left prev x))) × (n ≤ 10)
+  unfolding deltaOf
+  begins-len z h = rw z h
+
+  pub differs-len : 0 < left → (n ≡ length (varintOf (x - prev))) × (n ≤ 10) → (n ≡ length (varintOf (deltaOf left prev x))) × (n ≤ 10)
+  unfolding deltaOf
+  differs-len k h = let l : left ≡ suc (left - 1) = omega arith in rw l h
+
+pub one-byte : (d : ℕ) → d < 128 → (1 ≡ length (varintOf d)) × (1 ≤ 10)
+unfolding varintOf
+one-byte d h = (rw (leb-last 9 d h), omega arith)
+
+pub two-bytes : (d : ℕ) → 128 ≤ d → d < 16384 → (2 ≡ length (varintOf d)) × (2 ≤ 10)
+unfolding varintOf
+two-bytes d h k = (rw (leb-more 9 d h, leb-last 8 (d / 128) (omega arith)), omega arith)
 
 pub record LenAt (ids : List ℕ) (r i left prev total : ℕ) : Type 0 where
   pub at : IdsAt ids i left prev

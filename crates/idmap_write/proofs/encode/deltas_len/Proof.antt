@@ -18,20 +18,20 @@ abbrev μ-loop : tie.MeasureT-loop
 loop-holds : tie.Need-loop-holds Inv-loop μ-loop
 loop-holds c = len-first _ _ (ids-first _ (c .before .pre .1 .1))
 
-delta-requires : tie.Need-delta-requires Inv-loop μ-loop
-delta-requires c κs = ids-above _ _ _ _ (c .before .before .loop .inv .at) (omega arith)
+delta-len-requires : tie.Need-delta-len-requires Inv-loop μ-loop
+delta-len-requires c κs = ids-above _ _ _ _ (c .before .before .loop .inv .at) (omega arith)
 
 add-total : tie.Need-add-total Inv-loop μ-loop
 add-total c =
-    let small = c .before .before .before .before .loop .inv .small in
+    let small = c .before .before .before .loop .inv .small in
     omega arith
 
 loop-again : tie.Need-loop-again Inv-loop μ-loop
 loop-again c =
-    let el = c .before in
+    let d = c .before in
     rw (c .left-after .ensures)
-    (len-next _ _ _ _ _ _ _ (el .before .before .before .before .loop .inv) (omega arith)
-    (rw (el .before .delta .ensures) at (el .encoded-len .ensures .0)) (el .encoded-len .ensures .1))
+    (len-next _ _ _ _ _ _ _ (d .before .before .before .loop .inv) (omega arith) (d .delta-len .ensures .0)
+    (d .delta-len .ensures .1))
 
 returns : tie.Need-returns Inv-loop μ-loop
 returns c = len-last _ _ _ _ _ _ (c .before .loop .inv) (omega arith)
@@ -40,5 +40,5 @@ pub deltas-len-spec : {M : Type 1} → statement M
 deltas-len-spec =
     tie.close
     (tie.spec
-    Inv-loop μ-loop loop-holds (search needs) (search needs) delta-requires (search needs) add-total
-    (search needs) (search needs) (search needs) loop-again returns)
+    Inv-loop μ-loop loop-holds (search needs) (search needs) delta-len-requires add-total (search needs)
+    (search needs) (search needs) loop-again returns)

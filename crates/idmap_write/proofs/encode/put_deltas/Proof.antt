@@ -36,7 +36,7 @@ put-restart-requires c κs =
 
 put-requires : tie.Need-put-requires Inv-loop μ-loop
 put-requires c κs =
-    let pr = c .before .before .before in
+    let pr = c .before .before .before .before in
     let l = pr .before .before .before .before .before in
     let s = l .before .before .before in
     rw (pr .before .before .delta .ensures)
@@ -49,12 +49,13 @@ put-requires c κs =
 
 loop-again : tie.Need-loop-again Inv-loop μ-loop
 loop-again c =
-    let p = c .before .before .before in
-    let pr = p .before .before .before .before in
+    let p = c .before .before in
+    let la = p .before .before in
+    let pr = la .before .before .before in
     let l = pr .before .before .before .before .before in
     let s = l .before .before .before in
     let d = pr .before .before .delta .ensures in
-    rw (c .left-after .ensures)
+    rw (la .left-after .ensures)
     (put-next _ _ _ _ _ _ _ _ _ _ (l .loop .inv) (omega arith) (s .pre .1 .0) (s .pre .1 .1) _ _ _ _
     (pr .put-restart .ensures .1) (pr .put-restart .ensures .0)
     (rw d at (p .put .ensures .1)) (rw d at (p .put .ensures .0)) (p .put .kept .0 ∙ pr .put-restart .kept .0))
@@ -72,4 +73,4 @@ put-deltas-spec =
     tie.close
     (tie.spec
     Inv-loop μ-loop loop-holds (search needs) (search needs) delta-requires sub-put-restart put-restart-requires
-    put-requires (search needs) (search needs) (search needs) loop-again same-length returns)
+    (search needs) put-requires (search needs) (search needs) loop-again same-length returns)
