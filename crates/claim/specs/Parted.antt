@@ -22,7 +22,7 @@ use Rattle.manifest.specs.Opening.{opened, states}
 use Rattle.reading.specs.Live.{liveOf, live}
 use Rattle.batch.specs.Form.{bodiesOf}
 use Rattle.appending.specs.Retire.{retirable, retireHeld}
-use Rattle.appending.specs.Append.{oldLinks, oldStates, nextId, manifestId, newCount, newEnd, checked, appendChecks, answerOn, appendAnswer, Holds}
+use Rattle.appending.specs.Append.{oldLinks, oldStates, nextId, manifestId, newCount, newEnd, checked, isNone, appendChecks, answerOn, appendAnswer, Holds}
 use Rattle.appending.specs.Accepts.{Fits, accepted-when, empty-passes}
 use Rattle.compacting.specs.Compact.{isManifest, withoutManifests, copied, movedTo}
 use Rattle.compacting.specs.Promise.{unplaced}
@@ -88,12 +88,21 @@ module _ (r s : Found Link) (same-id : r .link .id ≡ s .link .id) (same : unpl
   unfolding answerOn appendChecks checked oldLinks oldStates manifestId nextId
   by-room m us q =
       let held : retireHeld (s .before) (states s) ids ≡ true = sym (retire-alike r s same ids) ∙ y .retire-held in
+      let opens : ltb 0 n′ && isNone (some s) ≡ false = empty-passes n′ (some s) (λ z. absurd (let w : _≡_ {A = ℕ} 0 1 = cc in omega arith)) in
       let i = y .id-fits in
       let ids-fit : s .link .id + 1 + length (bodiesOf batch) ≤ 2 ^ 64 - 1 = omega arith in
       left m us (newEnd (some s) (bodiesOf batch) ∷ manifestId (some s) (bodiesOf batch) ∷ newCount (some s) (bodiesOf batch) ∷ [])
       (ltb room′ n′) (ltb maxFile n′) (ltb maxEntries (newCount (some s) (bodiesOf batch))) (ltb maxFile (newEnd (some s) (bodiesOf batch)))
       (ltb room′ (newEnd (some s) (bodiesOf batch)))
-      (rw (empty-passes n′ (some s) (λ z. absurd (let w : _≡_ {A = ℕ} 0 1 = cc in omega arith)), y .batch-held, y .vectors-good, held, le-ltb (2 ^ 64 - 1) (s .link .id + 1 + length (bodiesOf batch)) ids-fit) at q)
+      (rw (opens, y .batch-held, y .vectors-good, held, le-ltb (2 ^ 64 - 1) (s .link .id + 1 + length (bodiesOf batch)) ids-fit) at q)
+
+-- a call on a buffer that holds a file that opens
+opens-to : (f : List ℕ) (r : Found Link) → opened f ≡ some r → (old batch ids : List ℕ) → take (length f) old ≡ f
+    → appendAnswer old (length f) batch ids ≡ answerOn (length old) (length f) (some r) batch ids
+unfolding appendAnswer
+opens-to f r e old batch ids h =
+    ap (λ (x : List ℕ). answerOn (length old) (length f) (opened x) batch ids) h
+    ∙ ap (λ (o : Option (Found Link)). answerOn (length old) (length f) o batch ids) e
 
 -- what an accepted append passed on a file that opens
 accepted-fits : (f : List ℕ) (r : Found Link) → opened f ≡ some r → (old batch ids vs : List ℕ) → Holds old f → appendAnswer old (length f) batch ids ≡ Accepted vs
@@ -102,8 +111,7 @@ unfolding appendAnswer
 accepted-fits f r e old batch ids vs hold q =
     let inside = accepted-when (length old) (length f) (opened (take (length f) old)) batch ids vs q .0 .in-buffer in
     accepted-when (length old) (length f) (some r) batch ids vs
-    (sym (ap (λ (x : List ℕ). answerOn (length old) (length f) (opened x) batch ids) (hold inside) ∙ ap (λ (o : Option (Found Link)). answerOn (length old) (length f) o batch ids) e) ∙ q)
-    .0
+    (sym (opens-to f r e old batch ids (hold inside)) ∙ q) .0
 
 refused-by : (f g : List ℕ) (r s : Found Link) → opened f ≡ some r → opened g ≡ some s → r .link .id ≡ s .link .id → unplaced (copied r) ≡ unplaced (copied s)
     → (old old′ batch ids vs us : List ℕ) (n : ℕ) → Holds old f → Holds old′ g → appendAnswer old (length f) batch ids ≡ Accepted vs
@@ -117,7 +125,7 @@ refused-by f g r s e d same-id same old old′ batch ids vs us n hold hold′ q 
         inr (inl (cc))
     go (yes h) =
         by-room r s same-id same (length old) (length f) (length old′) (length g) batch ids (accepted-fits f r e old batch ids vs hold q) n us
-        (sym (ap (λ (x : List ℕ). answerOn (length old′) (length g) (opened x) batch ids) (hold′ h) ∙ ap (λ (o : Option (Found Link)). answerOn (length old′) (length g) o batch ids) d) ∙ q′)
+        (sym (opens-to g s d old′ batch ids (hold′ h)) ∙ q′)
 
 -- where the first accepts and the second refuses, and the other way round
 pub parted : (f g : List ℕ) → InStep f g → (old old′ batch ids vs us : List ℕ) (n : ℕ) → Holds old f → Holds old′ g

@@ -21,7 +21,8 @@ use Rattle.vecseg.specs.Payload.{vecKind, checkOf}
 use Rattle.vecseg.specs.Find.{Place, findIn}
 use Rattle.reading.specs.Live.{live, vectorsOf, searchOrder, withId}
 use Rattle.reading.specs.Placed.{all-with}
-use Rattle.reading.specs.Answers.{Handed, NotHanded, partOf, partFound, partIn, Hit, Held, Missing, Bad, hitOf, hitInSegment, orElse, searchIn, hitFound, hitIn, vectorHit, bufferHit, vectorCase, vectorAfter, valueHit, valueIn}
+use Rattle.reading.specs.Answers.{Handed, NotHanded, partOf, partFound, partIn}
+use Rattle.reading.specs.Answers.{Hit, Held, Missing, Bad, hitOf, hitInSegment, orElse, searchIn, hitFound, hitIn, vectorHit, bufferHit, vectorCase, vectorAfter, valueHit, valueIn}
 use Rattle.compacting.specs.Compact.{isManifest, withoutManifests, copied, movedTo, movedFrom}
 use Rattle.compacting.specs.Copied.{live-rising}
 use Rattle.compacting.specs.Promise.{unplaced, withoutPlace, SameAnswers}

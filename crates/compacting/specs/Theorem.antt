@@ -30,7 +30,8 @@ use Rattle.manifest.specs.OpeningLaws.{at-long, at-within, open-within}
 use Rattle.reading.specs.Live.{liveOf, live, withId}
 use Rattle.reading.specs.Placed.{at-inside}
 use Rattle.reading.specs.Answers.{NotHanded, partOf, partFound, partIn}
-use Rattle.compacting.specs.Compact.{isManifest, withoutManifests, copied, segmentsOf, movedTo, movedFrom, freshPayload, freshFile, freshManifest, freshFound, damaged, compactedBy, compactFound, compactCase, bufferFound, compactBuffer}
+use Rattle.compacting.specs.Compact.{isManifest, withoutManifests, copied, segmentsOf, movedTo, movedFrom, freshPayload, freshFile, freshManifest, freshFound}
+use Rattle.compacting.specs.Compact.{damaged, compactedBy, compactFound, compactCase, bufferFound, compactBuffer}
 use Rattle.compacting.specs.Copied.{live-all, none-manifest, without-none, moved-length, all-moved, all-whole, whole-sound}
 use Rattle.compacting.specs.Fresh.{link-inside, never-later, payload-long, fresh-length, fresh-states, unchanged, fresh-opens}
 use Rattle.compacting.specs.Same.{manifest-gone, missing-gone, unplaced-moved, same-answers, with-moved}
