@@ -29,7 +29,7 @@ use Rattle.compacting.specs.Compact.{isManifest, withoutManifests, copied, move
 use Rattle.compacting.specs.Promise.{unplaced}
 use Rattle.compacting.specs.Same.{same-answers}
 use Rattle.claim.specs.Demand3.{Call, isAccepted, fileAfter, Run, stop, call}
-use Rattle.claim.specs.Later.{SameCall, SameCalls, idAnswered, SameIds, InStep}
+use Rattle.claim.specs.Later.{Each, SameCall, SameCalls, idAnswered, SameIds, InStep}
 use Rattle.claim.specs.AfterAppend.{stay, stay-unplaced, bodies-unplaced, after-append}
 
 -- ---- an accepted append on each
@@ -123,7 +123,7 @@ step f g old old′ new new′ batch ids ts (Accepted vs) (Accepted vs′) i t h
     )
 
 pub later : {f f′ g g′ : List ℕ} {cs ds : List Call} → Run f cs f′ → Run g ds g′ → SameCalls cs ds → InStep f g → SameIds cs ds × InStep f′ g′
-unfolding SameCalls SameIds
+unfolding Each
 later stop stop s i = (tt, i)
 later stop (call h t p r) s i = absurd s
 later (call h t p r) stop s i = absurd s

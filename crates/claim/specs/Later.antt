@@ -15,6 +15,13 @@ use Rattle.compacting.specs.Compact.{copied}
 use Rattle.compacting.specs.Promise.{unplaced, SameAnswers}
 use Rattle.claim.specs.Demand3.{Call, isAccepted}
 
+-- two lists of calls, one by one
+unfoldable pub Each : (Call → Call → Type 0) → List Call → List Call → Type 0
+Each P [] [] = Unit {0}
+Each P [] (d ∷ ds) = ⊥
+Each P (c ∷ cs) [] = ⊥
+Each P (c ∷ cs) (d ∷ ds) = P c d × Each P cs ds
+
 -- two calls with the same arguments, both accepted or both refused
 pub record SameCall (c d : Call) : Type 0 where
   pub batch : c .batch ≡ d .batch
@@ -23,11 +30,8 @@ pub record SameCall (c d : Call) : Type 0 where
   pub accepted : isAccepted (c .answer) ≡ isAccepted (d .answer)
 
 -- 'as long as both files accept and refuse the same ones'
-unfoldable pub SameCalls : List Call → List Call → Type 0
-SameCalls [] [] = Unit {0}
-SameCalls [] (d ∷ ds) = ⊥
-SameCalls (c ∷ cs) [] = ⊥
-SameCalls (c ∷ cs) (d ∷ ds) = SameCall c d × SameCalls cs ds
+abbrev pub SameCalls : List Call → List Call → Type 0
+SameCalls = Each SameCall
 
 -- the manifest's id that an accepted append answers
 unfoldable pub idAnswered : Answer → ℕ
@@ -35,11 +39,8 @@ idAnswered (Accepted vs) = getD vs 1 0
 idAnswered (Refusal n vs) = 0
 
 -- 'gets the ids it would have got on the old file'
-unfoldable pub SameIds : List Call → List Call → Type 0
-SameIds [] [] = Unit {0}
-SameIds [] (d ∷ ds) = ⊥
-SameIds (c ∷ cs) [] = ⊥
-SameIds (c ∷ cs) (d ∷ ds) = (idAnswered (c .answer) ≡ idAnswered (d .answer)) × SameIds cs ds
+abbrev pub SameIds : List Call → List Call → Type 0
+SameIds = Each (λ c d. idAnswered (c .answer) ≡ idAnswered (d .answer))
 
 -- two files in step: their manifests have one id, from which the next append's ids go on; their live segments other than manifests are alike, ids
 -- and all, but for their places; and so every vector answer is the same
