@@ -80,6 +80,6 @@ pub fn commit(
     }
     let id = next + m as u64;
     crate::bodies::put_bodies(buf, batch, start, next, timestamp, offsets, kept);
-    confirm::as_segment::put_manifest(buf, at, id, timestamp, &offsets[..count], &states[..count]);
+    crate::new_manifest::put_manifest(buf, at, id, timestamp, &offsets[..count], &states[..count]);
     Appended::At { end, id, count }
 }

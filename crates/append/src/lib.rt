@@ -3,6 +3,7 @@
 pub mod bodies;
 pub mod commit;
 pub mod form;
+pub mod new_manifest;
 pub mod retire;
 pub mod vectors;
 

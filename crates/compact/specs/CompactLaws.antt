@@ -24,7 +24,7 @@ use Rattle.segment.specs.index.Numbered.{Numbered}
 use Rattle.manifest.specs.Payload.{payloadLength, entriesEnd}
 use Rattle.manifest.specs.Opening.{opened, openedCase}
 use Rattle.manifest.specs.OpeningLaws.{at-within}
-use Rattle.confirm.specs.as_segment.Laid.{payload-round}
+use Rattle.manifest.specs.PayloadLaws.{payload-round}
 use Rattle.opening.specs.FileManifest.{manifestOf, refused-alike}
 use Rattle.opening.specs.declared.FileManifest.the-variants.{Refused as FileRefused}
 use Rattle.opening.specs.Indexed.{ManifestAt}

@@ -1,3 +1,2 @@
-pub mod as_segment
 pub mod entries
 pub mod states

@@ -1,7 +1,6 @@
 // Whether a link is a confirmed manifest. Its payload is written anew from the headers of the links before it, with
 // the states that it says, and compared. Cheap tests come first: a file with many links of type 0x05 costs a test of
 // the length for most of them.
-pub mod as_segment;
 pub mod entries;
 pub mod payload;
 pub mod states;

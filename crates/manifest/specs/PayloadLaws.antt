@@ -9,6 +9,7 @@ use lib.Dec.{eqb, leb}
 use lib.ListN.{length, drop, getD, replicate, length-append, length-replicate, length-drop}
 use lib.Seq.{getD-append-add, length-take-le}
 use borrow.Author.Tests.{eqb-true, leb-true}
+use Rattle.octets.specs.Round.{round64}
 use Rattle.octets.specs.Zero.{sameBytes}
 use Rattle.octets.specs.ZeroLaws.{and-split, same-equal}
 use Rattle.octets.specs.le.Le.{leBytes}
@@ -18,8 +19,9 @@ use Rattle.answers.specs.limits.Limits.{maxEntries}
 use Rattle.segment.specs.Header.{Link, whole}
 use Rattle.segment.specs.Laws.{linkFront, LinkRead, lies, size-least}
 use Rattle.segment.specs.Chained.{chain}
+use Rattle.manifest.specs.Sized.{recordBy}
 use Rattle.manifest.specs.SizedLaws.{length-entriesOf, statesBy-entries}
-use Rattle.manifest.specs.Payload.{manifestKind, entrySize, entryBytes, entries, recordEnd, recordBytes, root, payloadLength, manifestPayload, statesIn, stateHeld, statesHeld, confirmed}
+use Rattle.manifest.specs.Payload.{manifestKind, entrySize, entriesEnd, entryBytes, entries, recordEnd, recordBytes, root, payloadLength, manifestPayload, statesIn, stateHeld, statesHeld, confirmed}
 use Rattle.manifest.specs.At.{record-ge, length-root}
 use Rattle.manifest.specs.Lying.{Lying, chain-lying}
 
@@ -74,6 +76,16 @@ module _ (ls : List Link) (ss : List ℕ) (offset id : ℕ) (t : All Hashed ls) 
       let a : (entries ls ss ++ replicate (recordEnd (length ls) - (8 + entrySize * length ls)) 0) ++ root (length ls) offset id ≡ entries ls ss ++ rest =
       append-assoc (entries ls ss) (replicate (recordEnd (length ls) - (8 + entrySize * length ls)) 0) (root (length ls) offset id) in
       ap (statesIn (length ls)) a ∙ statesBy-entries entrySize entryBytes ls ss rest (omega arith) (all-written ls t) e
+
+-- a directory of 1,024 entries has the longest payload
+pub payload-most : (c : ℕ) → c ≤ 1024 → (payloadLength c ≤ 53312) × (round64 (payloadLength c) ≤ 53312)
+unfolding payloadLength recordBy round64
+payload-most c h = (omega arith, omega arith)
+
+-- its length, rounded up, as code that adds it up has it
+pub payload-round : (c r r′ : ℕ) → r ≡ round64 (entriesEnd c) → r′ ≡ round64 (r + 4096) → r′ ≡ round64 (payloadLength c)
+unfolding payloadLength recordBy
+payload-round c r r′ p q = q ∙ ap (λ (y : ℕ). round64 (y + 4096)) p
 
 -- ---- states that entries may have
 

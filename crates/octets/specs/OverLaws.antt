@@ -129,3 +129,21 @@ over-swap b a xs c ys h k =
     ∙ sym (ap (λ (l : List ℕ). l ++ (ys ++ drop (c + length ys) (over b a xs))) (take-over b a xs c h (omega arith))
     ∙ ap (λ (l : List ℕ). (take a b ++ (xs ++ take (c - (a + length xs)) (drop (a + length xs) b))) ++ (ys ++ l)) (drop-over b a xs (c + length ys) (omega arith) (omega arith))
     ∙ simp append-assoc)
+
+-- what is written over as many bytes takes their place; and over the first of some
+over-again : (s : List ℕ) (at : ℕ) (xs ys : List ℕ) → at ≤ length s → length ys ≡ length xs → over (over s at xs) at ys ≡ over s at ys
+unfolding over
+over-again s at xs ys h e =
+    let front : take at (over s at xs) ≡ take at s = over-before s at xs h in
+    let rest : drop (at + length ys) (over s at xs) ≡ drop (at + length ys) s = rw e (over-behind s at xs h) in
+    ap (λ (l : List ℕ). l ++ (ys ++ drop (at + length ys) (over s at xs))) front ∙ ap (λ (l : List ℕ). take at s ++ (ys ++ l)) rest
+
+pub over-first : (s : List ℕ) (at : ℕ) (xs ys zs : List ℕ) → at + length xs ≤ length s → length zs ≡ length xs
+    → over (over s at (xs ++ ys)) at zs ≡ over s at (zs ++ ys)
+over-first s at xs ys zs h e =
+    let n : length (over s at xs) ≡ length s = length-over s at xs h in
+    ap (λ (l : List ℕ). over l at zs) (sym (over-next s at xs ys h))
+    ∙ over-swap (over s at xs) at zs (at + length xs) ys (omega arith) (omega arith)
+    ∙ ap (λ (l : List ℕ). over l (at + length xs) ys) (over-again s at xs zs (omega arith) e)
+    ∙ ap (λ (k : ℕ). over (over s at zs) (at + k) ys) (sym e)
+    ∙ over-next s at zs ys (omega arith)

@@ -11,7 +11,7 @@ use Rattle.segment.specs.Header.{Link}
 use Rattle.segment.specs.Chained.{offsetsOf}
 use Rattle.segment.specs.index.Numbered.{Numbered}
 use Rattle.manifest.specs.Payload.{payloadLength}
-use Rattle.confirm.specs.as_segment.Laid.{payload-round}
+use Rattle.manifest.specs.PayloadLaws.{payload-round}
 use Rattle.opening.specs.Indexed.{manifest-numbered}
 use Rattle.compacting.specs.Compact.{copied, freshFile}
 use Rattle.compact.specs.CompactLaws.{Chosen, chosen, chosen-offsets, compact-damaged, fresh-ends, fresh-small, compact-short, compact-done}

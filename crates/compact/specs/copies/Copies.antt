@@ -4,10 +4,12 @@
 use Prim.Native.Nat.{ℕ, _+_, _≤_, _<_}
 use mathlib.Core.List.{List, [], _∷_, _++_}
 use lib.ListN.{length, take, drop, getD, replicate}
+use Rattle.octets.specs.Over.{over}
 use Rattle.octets.specs.Round.{round64}
+use Rattle.octets.specs.le.Le.{leBytes}
 use Rattle.segment.specs.Header.{lengthAt}
 use Rattle.segment.specs.Written.{segment}
-use Rattle.manifest.specs.Payload.{manifestKind}
+use Rattle.manifest.specs.Payload.{manifestKind, entrySize}
 use Rattle.manifest.specs.At.{payloadAt}
 
 -- how many bytes the segment at a place takes, as its header says
@@ -30,6 +32,11 @@ copiesAt f (o ∷ os) = copyAt f o ++ copiesAt f os
 unfoldable pub placesAt : List ℕ → ℕ → List ℕ → List ℕ
 placesAt f at [] = []
 placesAt f at (o ∷ os) = at ∷ placesAt f (at + length (copyAt f o)) os
+
+-- some entries with these places: the first eight bytes of each, from a place of a buffer on
+unfoldable pub placed : ℕ → List ℕ → List ℕ → List ℕ
+placed base [] s = s
+placed base (p ∷ ps) s = placed (base + entrySize) ps (over s base (leBytes 8 p))
 
 -- the segments, and at a place the manifest of them, all live
 unfoldable pub fileAt : List ℕ → List ℕ → ℕ → ℕ → ℕ → List ℕ

@@ -42,7 +42,7 @@ unfolding placesAt
 places-length f at [] = refl
 places-length f at (o ∷ os) = ap suc (places-length f (at + length (copyAt f o)) os)
 
-standing-tail : (f : List ℕ) (o : ℕ) (os : List ℕ) → Standing f (o ∷ os) → Standing f os
+pub standing-tail : (f : List ℕ) (o : ℕ) (os : List ℕ) → Standing f (o ∷ os) → Standing f os
 standing-tail f o os h i k = h (suc i) (omega arith)
 
 -- each has its header among the copies

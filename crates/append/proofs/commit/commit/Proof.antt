@@ -16,7 +16,7 @@ use Rattle.batch.specs.Form.{bodiesOf}
 use Rattle.batch.specs.Lines.{bodies-count, count-is, held-bounds}
 use Rattle.appending.specs.Append.{newCount, newEnd, manifestId}
 use Rattle.append.specs.commit.Commit.{nextIdOf, commit-entries, commit-ids, commit-limit, commit-room, commit-done, count-number, id-number, end-number}
-use Rattle.confirm.specs.as_segment.Laid.{payload-round}
+use Rattle.manifest.specs.PayloadLaws.{payload-round}
 use Rattle.append.specs.commit.Written.{bodies-most, written-inside, written-all}
 use borrow.Author.Needs.{needs}
 use Rattle.append.proofs.commit.commit.Statement.{statement}

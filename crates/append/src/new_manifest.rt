@@ -1,4 +1,4 @@
-// The manifest that a file ends with, written as a segment.
+// The manifest that an append ends with, written as a segment.
 ghost use mathlib.Core.Path.{_≡_};
 ghost use Prim.Native.Nat.{_+_, _≤_};
 ghost use lib.ListN.{length, take};
@@ -27,7 +27,7 @@ pub fn put_manifest(
         (now (states .entry)) at id)) ⌝ }
 {
     let mut payload = [0u8; manifest::fields::MAX_PAYLOAD];
-    let n = crate::payload::put_payload(&mut payload, &buf[..at], offsets, states, at as u64, id);
+    let n = confirm::payload::put_payload(&mut payload, &buf[..at], offsets, states, at as u64, id);
     segment::write::put_segment(
         &mut buf[at..],
         manifest::fields::KIND,

@@ -1,4 +1,4 @@
--- `confirm::as_segment::put_manifest` meets its contract.
+-- `append::new_manifest::put_manifest` meets its contract.
 -- Assumes nothing.
 use Prim.Native.Nat.{_-_}
 use mathlib.Core.Path.{_≡_, sym, ap, _∙_}
@@ -9,10 +9,11 @@ use Rattle.octets.specs.Parts.{laid-front}
 use Rattle.octets.specs.Round.{round64}
 use Rattle.manifest.specs.Payload.{payloadLength}
 use Rattle.manifest.specs.At.{payloadAt, length-payloadAt}
-use Rattle.confirm.specs.as_segment.Laid.{payload-most, manifest-laid}
+use Rattle.manifest.specs.PayloadLaws.{payload-most}
+use Rattle.append.specs.bodies.Laid.{manifest-laid}
 use borrow.Author.Needs.{needs}
-use Rattle.confirm.proofs.as_segment.put_manifest.Statement.{statement}
-use Rattle.confirm.proofs.as_segment.put_manifest.Tie as tie
+use Rattle.append.proofs.new_manifest.put_manifest.Statement.{statement}
+use Rattle.append.proofs.new_manifest.put_manifest.Tie as tie
 
 slice-aggregate-put-payload-2 : tie.Need-slice-aggregate-put-payload-2
 slice-aggregate-put-payload-2 c =
