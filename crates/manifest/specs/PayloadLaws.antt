@@ -21,7 +21,8 @@ use Rattle.segment.specs.Laws.{linkFront, LinkRead, lies, size-least}
 use Rattle.segment.specs.Chained.{chain}
 use Rattle.manifest.specs.Sized.{recordBy}
 use Rattle.manifest.specs.SizedLaws.{length-entriesOf, statesBy-entries}
-use Rattle.manifest.specs.Payload.{manifestKind, entrySize, entriesEnd, entryBytes, entries, recordEnd, recordBytes, root, payloadLength, manifestPayload, statesIn, stateHeld, statesHeld, confirmed}
+use Rattle.manifest.specs.Payload.{manifestKind, entrySize, entriesEnd, entryBytes, entries, recordEnd, recordBytes, root}
+use Rattle.manifest.specs.Payload.{payloadLength, manifestPayload, statesIn, stateHeld, statesHeld, confirmed}
 use Rattle.manifest.specs.At.{record-ge, length-root}
 use Rattle.manifest.specs.Lying.{Lying, chain-lying}
 
