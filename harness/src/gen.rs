@@ -2,6 +2,7 @@
 //! seed, so a failing case comes back in every run.
 
 pub mod batches;
+pub mod builder;
 pub mod files;
 pub mod maps;
 pub mod payloads;
