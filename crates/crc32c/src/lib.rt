@@ -7,6 +7,7 @@ ghost use lib.ListN.{length, drop};
 ghost use Rattle.crc32c.specs.Crc.{bits, crcFrom, crcOf};
 ghost use Rattle.crc32c.specs.Words.{eight};
 ghost use Rattle.crc32c.specs.Ahead.{Ahead};
+ghost use Rattle.crc32c.specs.Extend.{extended};
 
 const POLYNOMIAL: u64 = 0x82F6_3B78;
 
@@ -165,12 +166,19 @@ fn lanes(c: u64, s: &[u8]) -> Entered
     }
 }
 
+// The CRC32C of a slice that stands behind others, by the checksum of those: 0 where none do.
+pub fn extend(sum: u32, data: &[u8]) -> u32
+    ensures { λ r. ⌜ r ≡ extended sum (now («data» .entry)) ⌝ }
+{
+    let entered = lanes(sum as u64 ^ 0xFFFF_FFFF, data);
+    let register = entered.register;
+    let at = entered.at;
+    (rest(register, data, at) ^ 0xFFFF_FFFF) as u32
+}
+
 // The CRC32C of a slice.
 pub fn checksum(data: &[u8]) -> u32
     ensures { λ r. ⌜ r ≡ crcOf (now («data» .entry)) ⌝ }
 {
-    let entered = lanes(0xFFFF_FFFF, data);
-    let register = entered.register;
-    let at = entered.at;
-    (rest(register, data, at) ^ 0xFFFF_FFFF) as u32
+    extend(0, data)
 }
