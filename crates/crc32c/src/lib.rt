@@ -1,8 +1,11 @@
 // CRC32C of a slice, in four lanes of eight bytes. No table stands here. Eight steps with a polynomial that is known
 // are a loop that the compiler replaces by a look-up in a table of 256 numbers, which it lays down once among the
 // program's constants. A constant array of the source would be copied at each call.
+pub mod window;
+
 ghost use mathlib.Core.Path.{_≡_};
-ghost use Prim.Native.Nat.{_+_, _<_, _≤_};
+ghost use Prim.Native.Nat.{_+_, _<_, _≤_, _^_};
+ghost use lib.Bits.{bitXor};
 ghost use lib.ListN.{length, drop};
 ghost use Rattle.crc32c.specs.Crc.{bits, crcFrom, crcOf};
 ghost use Rattle.crc32c.specs.Words.{eight};
@@ -166,19 +169,53 @@ fn lanes(c: u64, s: &[u8]) -> Entered
     }
 }
 
+// The register after a slice, by the lanes.
+pub fn by_lanes(c: u64, s: &[u8]) -> u64
+    ensures { λ r. ⌜ r ≡ crcFrom c (now (s .entry)) ⌝ }
+{
+    let entered = lanes(c, s);
+    let register = entered.register;
+    let at = entered.at;
+    rest(register, s, at)
+}
+
+// A register turned over.
+fn turned(register: u64) -> u32
+    requires { ⌜ register < 2 ^ 32 ⌝ }
+    ensures { λ r. ⌜ r ≡ bitXor register 0xFFFF_FFFF ⌝ }
+{
+    (register ^ 0xFFFF_FFFF) as u32
+}
+
+// From how many bytes on a window is won back, and a second one in front of it.
+const LONG: usize = 1024;
+
+const LONGEST: usize = 32768;
+
 // The CRC32C of a slice that stands behind others, by the checksum of those: 0 where none do.
 pub fn extend(sum: u32, data: &[u8]) -> u32
     ensures { λ r. ⌜ r ≡ extended sum (now («data» .entry)) ⌝ }
 {
-    let entered = lanes(sum as u64 ^ 0xFFFF_FFFF, data);
-    let register = entered.register;
-    let at = entered.at;
-    (rest(register, data, at) ^ 0xFFFF_FFFF) as u32
+    let c = sum as u64 ^ 0xFFFF_FFFF;
+    if data.len() < LONG {
+        return turned(by_lanes(c, data));
+    }
+    if data.len() < LONGEST {
+        return turned(crate::window::by_near(c, data));
+    }
+    turned(crate::window::by_far(c, data))
 }
 
-// The CRC32C of a slice.
+// The CRC32C of a slice. It is `extend` behind nothing, written out: with two callers each the three ways stay functions
+// of their own, and a short slice does not pay for the frame of a long one.
 pub fn checksum(data: &[u8]) -> u32
     ensures { λ r. ⌜ r ≡ crcOf (now («data» .entry)) ⌝ }
 {
-    extend(0, data)
+    if data.len() < LONG {
+        return turned(by_lanes(0xFFFF_FFFF, data));
+    }
+    if data.len() < LONGEST {
+        return turned(crate::window::by_near(0xFFFF_FFFF, data));
+    }
+    turned(crate::window::by_far(0xFFFF_FFFF, data))
 }
