@@ -169,22 +169,15 @@ fn lanes(c: u64, s: &[u8]) -> Entered
     }
 }
 
-// The register after a slice, by the lanes.
-pub fn by_lanes(c: u64, s: &[u8]) -> u64
-    ensures { λ r. ⌜ r ≡ crcFrom c (now (s .entry)) ⌝ }
+// The register after a slice, turned over, by the lanes.
+pub fn by_lanes(c: u64, s: &[u8]) -> u32
+    requires { ⌜ c < 2 ^ 32 ⌝ }
+    ensures { λ r. ⌜ r ≡ bitXor (crcFrom c (now (s .entry))) 0xFFFF_FFFF ⌝ }
 {
     let entered = lanes(c, s);
     let register = entered.register;
     let at = entered.at;
-    rest(register, s, at)
-}
-
-// A register turned over.
-fn turned(register: u64) -> u32
-    requires { ⌜ register < 2 ^ 32 ⌝ }
-    ensures { λ r. ⌜ r ≡ bitXor register 0xFFFF_FFFF ⌝ }
-{
-    (register ^ 0xFFFF_FFFF) as u32
+    (rest(register, s, at) ^ 0xFFFF_FFFF) as u32
 }
 
 // From how many bytes on a window is won back, and a second one in front of it.
@@ -198,12 +191,12 @@ pub fn extend(sum: u32, data: &[u8]) -> u32
 {
     let c = sum as u64 ^ 0xFFFF_FFFF;
     if data.len() < LONG {
-        return turned(by_lanes(c, data));
+        return by_lanes(c, data);
     }
     if data.len() < LONGEST {
-        return turned(crate::window::by_near(c, data));
+        return crate::window::by_near(c, data);
     }
-    turned(crate::window::by_far(c, data))
+    crate::window::by_far(c, data)
 }
 
 // The CRC32C of a slice. It is `extend` behind nothing, written out: with two callers each the three ways stay functions
@@ -212,10 +205,10 @@ pub fn checksum(data: &[u8]) -> u32
     ensures { λ r. ⌜ r ≡ crcOf (now («data» .entry)) ⌝ }
 {
     if data.len() < LONG {
-        return turned(by_lanes(0xFFFF_FFFF, data));
+        return by_lanes(0xFFFF_FFFF, data);
     }
     if data.len() < LONGEST {
-        return turned(crate::window::by_near(0xFFFF_FFFF, data));
+        return crate::window::by_near(0xFFFF_FFFF, data);
     }
-    turned(crate::window::by_far(0xFFFF_FFFF, data))
+    crate::window::by_far(0xFFFF_FFFF, data)
 }

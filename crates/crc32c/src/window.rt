@@ -130,10 +130,10 @@ fn far_message(m: &mut [u8], w: &[u8], at: usize)
     add(m, w, at, FAR);
 }
 
-// The register after a slice: all of it goes into the near window, and the window's message through the lanes.
-pub fn by_near(c: u64, s: &[u8]) -> u64
+// The register after a slice, turned over: all of it goes into the near window, and the window's message through the lanes.
+pub fn by_near(c: u64, s: &[u8]) -> u32
     requires { ⌜ c < 2 ^ 32 ⌝ }
-    ensures { λ r. ⌜ r ≡ crcFrom c (now (s .entry)) ⌝ }
+    ensures { λ r. ⌜ r ≡ bitXor (crcFrom c (now (s .entry))) 0xFFFF_FFFF ⌝ }
 {
     let mut w = [0u8; PART + NEAR];
     octets::le::put(&mut w, 0, 4, c);
@@ -144,9 +144,9 @@ pub fn by_near(c: u64, s: &[u8]) -> u64
 }
 
 // The same by the far window, whose message goes through the near one.
-pub fn by_far(c: u64, s: &[u8]) -> u64
+pub fn by_far(c: u64, s: &[u8]) -> u32
     requires { ⌜ c < 2 ^ 32 ⌝ }
-    ensures { λ r. ⌜ r ≡ crcFrom c (now (s .entry)) ⌝ }
+    ensures { λ r. ⌜ r ≡ bitXor (crcFrom c (now (s .entry))) 0xFFFF_FFFF ⌝ }
 {
     let mut w = [0u8; PART + FAR];
     octets::le::put(&mut w, 0, 4, c);

@@ -6,6 +6,7 @@ use mathlib.Core.Bool.{true}
 use mathlib.Core.List.{List}
 use lib.ListN.{length-replicate}
 use native.Mathlib.Omega.{arith}
+use lib.Bits.{bitXor}
 use borrow.Author.Needs.{needs}
 use Rattle.crc32c.specs.Crc.{crcFrom}
 use Rattle.crc32c.specs.Window.{held}
@@ -28,9 +29,10 @@ returns c =
     let c0 = c1 .before .before .before in
     let s = c0 .before .before .before in
     c .by-near .ensures
-    ∙ c2 .far-message .ensures
+    ∙ ap (λ (x : ℕ). bitXor x 0xFFFF_FFFF)
+    (c2 .far-message .ensures
     ∙ c1 .take-in .ensures .0
-    ∙ ap (λ (x : ℕ). crcFrom x (s .args .s .now)) (ap (λ (l : List ℕ). held (reachOf true) l 0) (c0 .put .ensures) ∙ started true 13463 (s .args .c) (s .pre))
+    ∙ ap (λ (x : ℕ). crcFrom x (s .args .s .now)) (ap (λ (l : List ℕ). held (reachOf true) l 0) (c0 .put .ensures) ∙ started true 13463 (s .args .c) (s .pre)))
 
 pub by-far-spec : {M : Type 1} → statement M
 by-far-spec =

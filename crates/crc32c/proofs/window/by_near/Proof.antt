@@ -5,6 +5,7 @@ use mathlib.Core.Path.{ap, _∙_}
 use mathlib.Core.Bool.{false}
 use mathlib.Core.List.{List}
 use native.Mathlib.Omega.{arith}
+use lib.Bits.{bitXor}
 use borrow.Author.Needs.{needs}
 use Rattle.crc32c.specs.Crc.{crcFrom}
 use Rattle.crc32c.specs.Window.{held}
@@ -27,9 +28,10 @@ returns c =
     let c0 = c1 .before .before .before in
     let s = c0 .before .before .before in
     c .by-lanes .ensures
-    ∙ c2 .near-message .ensures
+    ∙ ap (λ (x : ℕ). bitXor x 0xFFFF_FFFF)
+    (c2 .near-message .ensures
     ∙ c1 .take-in .ensures .0
-    ∙ ap (λ (x : ℕ). crcFrom x (s .args .s .now)) (ap (λ (l : List ℕ). held (reachOf false) l 0) (c0 .put .ensures) ∙ started false 8487 (s .args .c) (s .pre))
+    ∙ ap (λ (x : ℕ). crcFrom x (s .args .s .now)) (ap (λ (l : List ℕ). held (reachOf false) l 0) (c0 .put .ensures) ∙ started false 8487 (s .args .c) (s .pre)))
 
 pub by-near-spec : {M : Type 1} → statement M
 by-near-spec =
