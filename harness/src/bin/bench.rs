@@ -1,6 +1,8 @@
-//! The benchmark: prints `name ours theirs ratio` a line. Ours is the linked library,
-//! theirs the reference in plain Rust; the name ends in the unit. The ratio is of
-//! speeds, so 1.00 is equal and above is faster. Nothing here is a test.
+//! The benchmark: prints `name ours textbook best ratio ratio` a line. Ours is the linked
+//! library; the two others are the reference in plain Rust, with its checksums by sixteen
+//! tables as a textbook has them, and by the best way known here. The name ends in the unit.
+//! The ratios are of speeds, ours to each of them, so 1.00 is equal and above is faster.
+//! Nothing here is a test.
 
 #[cfg(feature = "append")]
 #[path = "bench/appending.rs"]
@@ -18,6 +20,7 @@ mod vectors;
 use rvf_harness::calls::Calls;
 use rvf_harness::ffi::Library;
 use rvf_harness::gen::{maps, Rng};
+use rvf_harness::reference::crc::take_best;
 use std::hint::black_box;
 use std::time::{Duration, Instant};
 
@@ -45,8 +48,8 @@ fn seconds(call: &mut impl FnMut(), calls: usize) -> f64 {
     start.elapsed().as_secs_f64() / calls as f64
 }
 
-/// Measures both sides in turn, round by round, so that a busy machine hurts both
-/// alike, and prints the line.
+/// Measures all in turn, round by round, so that a busy machine hurts them alike, and prints
+/// the line.
 pub fn line(name: &str, unit: Unit, mut ours: impl FnMut(), mut theirs: impl FnMut()) {
     // As many calls a round as fill it, found by doubling: the first calls are cold.
     let mut calls = 1;
@@ -57,17 +60,30 @@ pub fn line(name: &str, unit: Unit, mut ours: impl FnMut(), mut theirs: impl FnM
         }
         calls *= 2;
     }
-    let (mut best_ours, mut best_theirs) = (f64::MAX, f64::MAX);
+    let [mut best_ours, mut best_textbook, mut best_best] = [f64::MAX; 3];
     for _ in 0..ROUNDS {
         best_ours = best_ours.min(seconds(&mut ours, calls));
-        best_theirs = best_theirs.min(seconds(&mut theirs, calls));
+        best_textbook = best_textbook.min(seconds(&mut theirs, calls));
+        take_best(true);
+        best_best = best_best.min(seconds(&mut theirs, calls));
+        take_best(false);
     }
-    let ratio = best_theirs / best_ours;
-    let (unit, ours, theirs) = match unit {
-        Unit::Bytes(bytes) => ("MB/s", bytes as f64 / best_ours / 1e6, bytes as f64 / best_theirs / 1e6),
-        Unit::Ns(operations) => ("ns", best_ours * 1e9 / operations as f64, best_theirs * 1e9 / operations as f64),
+    let shown = |seconds: f64| match unit {
+        Unit::Bytes(bytes) => bytes as f64 / seconds / 1e6,
+        Unit::Ns(operations) => seconds * 1e9 / operations as f64,
     };
-    println!("{name}_{unit} {ours:.1} {theirs:.1} {ratio:.2}");
+    let unit = match unit {
+        Unit::Bytes(_) => "MB/s",
+        Unit::Ns(_) => "ns",
+    };
+    println!(
+        "{name}_{unit} {:.1} {:.1} {:.1} {:.2} {:.2}",
+        shown(best_ours),
+        shown(best_textbook),
+        shown(best_best),
+        best_textbook / best_ours,
+        best_best / best_ours
+    );
 }
 
 /// The reference behind calls that are not inlined into the loops here, since those
@@ -101,7 +117,7 @@ pub mod theirs {
 
 fn checksums() {
     let data = Rng::new(1).bytes(1 << 20);
-    for (name, length) in [("1MiB", 1 << 20), ("4KiB", 4_096), ("512B", 512), ("64B", 64), ("16B", 16)] {
+    for (name, length) in [("1MiB", 1 << 20), ("64KiB", 1 << 16), ("4KiB", 4_096), ("512B", 512), ("64B", 64), ("16B", 16)] {
         let part = &data[..length];
         line(
             &format!("crc32c_{name}"),
@@ -223,7 +239,7 @@ fn write_map(name: &str, ids: &[u64]) {
 }
 
 fn main() {
-    println!("name ours theirs ratio");
+    println!("name ours textbook best ratio ratio");
     checksums();
     varints();
     id_maps();

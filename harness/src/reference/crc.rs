@@ -1,6 +1,17 @@
 //! CRC32C, document 01, section "The chain from byte 0": the Castagnoli code of
 //! RFC 3720. Two forms: the fast one takes sixteen bytes a step by sixteen tables,
-//! the plain one a bit a step; each is checked against the other.
+//! the plain one a bit a step; each is checked against the other. A third, quicker one
+//! stands in `sparse`: the benchmark can have the reference take that.
+
+use std::sync::atomic::{AtomicBool, Ordering::Relaxed};
+
+/// Whether the reference takes its checksums by `sparse`.
+static BEST: AtomicBool = AtomicBool::new(false);
+
+/// Has the reference take its checksums by the best form, or by the textbook's.
+pub fn take_best(best: bool) {
+    BEST.store(best, Relaxed);
+}
 
 /// The Castagnoli polynomial, bits reversed.
 const POLYNOMIAL: u32 = 0x82F6_3B78;
@@ -48,9 +59,10 @@ fn four(word: u32, high: usize) -> u32 {
         ^ TABLES[high - 3][(word >> 24) as usize]
 }
 
-/// The checksum of all the bytes (slicing-by-16).
-pub fn crc32c(data: &[u8]) -> u32 {
-    let mut crc = !0u32;
+/// The register after all the bytes (slicing-by-16).
+#[inline(always)]
+pub(super) fn sliced(register: u32, data: &[u8]) -> u32 {
+    let mut crc = register;
     let mut chunks = data.chunks_exact(16);
     for chunk in &mut chunks {
         let chunk: &[u8; 16] = chunk.try_into().unwrap();
@@ -62,7 +74,20 @@ pub fn crc32c(data: &[u8]) -> u32 {
     for &byte in chunks.remainder() {
         crc = (crc >> 8) ^ TABLES[0][((crc ^ byte as u32) & 255) as usize];
     }
-    !crc
+    crc
+}
+
+/// The checksum of all the bytes by the textbook's tables.
+pub fn crc32c_sliced(data: &[u8]) -> u32 {
+    !sliced(!0, data)
+}
+
+/// The checksum of all the bytes, by the textbook's tables unless the best form was asked for.
+pub fn crc32c(data: &[u8]) -> u32 {
+    if BEST.load(Relaxed) {
+        return super::sparse::crc32c(data);
+    }
+    crc32c_sliced(data)
 }
 
 /// The same checksum a bit at a time, as the definition has it.

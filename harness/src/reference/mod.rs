@@ -12,6 +12,7 @@ pub mod idmap;
 pub mod lister;
 pub mod manifest;
 pub mod segment;
+pub mod sparse;
 pub mod store;
 pub mod varint;
 pub mod vecseg;

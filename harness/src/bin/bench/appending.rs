@@ -1,7 +1,8 @@
-//! The lines for appending: a batch of 1 MiB to files of 1, 4 and 15 MiB whose
-//! manifests have 1,000 entries.
+//! The lines for appending: vectors of 64 KiB to a file of 1 MiB of them, and a batch of 1 MiB
+//! to files of 1, 4 and 15 MiB whose manifests have 1,000 entries.
 
 use crate::files::thousand;
+use crate::vectors::payload;
 use crate::{line, Unit};
 use rvf_harness::calls::{Calls, Reference};
 use rvf_harness::ffi::Library;
@@ -14,7 +15,36 @@ fn their_append(buffer: &mut [u8], n: u64, batch: &[u8], out: &mut [u64; 3]) -> 
     Reference.append(buffer, n, batch, &[], 1, out)
 }
 
+/// A pass of vectors, 64 KiB, appended to a file of sixteen others.
+fn vectors() {
+    let mut rng = Rng::new(19);
+    let batch_from = |rng: &mut Rng, first_id| batch_of(&[(1, 0, &payload(rng, 248, first_id))]);
+    let (mut buffer_a, mut n, mut out) = (vec![0; 2 << 20], 0, [0; 3]);
+    for pass in 0..16 {
+        let batch = batch_from(&mut rng, 10_000 * pass);
+        assert_eq!(Reference.append(&mut buffer_a, n, &batch, &[], 1, &mut out), 0);
+        n = out[0];
+    }
+    let batch = batch_from(&mut rng, 10_000 * 16);
+    let mut buffer_b = buffer_a.clone();
+    line(
+        "append_64KiB_of_vectors",
+        Unit::Bytes(batch.len()),
+        || {
+            let mut out = [0; 3];
+            assert_eq!(Library.append(black_box(&mut buffer_a), n, black_box(&batch), &[], 1, &mut out), 0);
+            black_box(out);
+        },
+        || {
+            let mut out = [0; 3];
+            assert_eq!(their_append(black_box(&mut buffer_b), n, black_box(&batch), &mut out), 0);
+            black_box(out);
+        },
+    );
+}
+
 pub fn lines() {
+    vectors();
     let mut rng = Rng::new(9);
     // One body, and the manifest behind it: together nearly the longest batch.
     let body = rng.bytes(limits::BATCH_MAX - 32);
