@@ -11,29 +11,34 @@ ghost use mathlib.Core.Path.{_≡_};
 ghost use mathlib.Core.Bool.{true};
 ghost use mathlib.Core.List.{_++_};
 ghost use Prim.Native.Nat.{_+_, _-_, _≤_, _<_};
-ghost use lib.ListN.{length, replicate};
+ghost use lib.ListN.{length, take, replicate};
 ghost use Rattle.octets.specs.Over.{over};
 ghost use Rattle.segment.specs.index.Offsets.{most};
 ghost use Rattle.manifest.specs.Opening.{opened};
 ghost use Rattle.manifest.specs.At.{Inside};
 ghost use Rattle.opening.specs.Indexed.{ManifestAt, Indexed};
+ghost use Rattle.batch.specs.Form.{bodyCount, bodiesOf};
 ghost use Rattle.appending.specs.Retire.{retireHeld, retired};
 ghost use Rattle.appending.specs.Append.{oldLinks, oldStates, Appends, appendedAnswer};
 ghost use Rattle.append.specs.commit.Answer.{batchNumber};
 ghost use Rattle.append.specs.Entries.{entryIdsAt, kindsAt};
-ghost use Rattle.answers.specs.limits.Limits.{maxEntries};
+ghost use Rattle.append.specs.vectors.Vectors.{bodySums};
+ghost use Rattle.answers.specs.limits.Limits.{maxBodies, maxEntries};
 use appending::Appended;
 use manifest::Opened;
 
 // The number that a batch is refused with: 10 for its form, then that of its first bad vector body; 0 where it is
-// taken.
-fn batch_number(batch: &[u8]) -> u32
-    ensures { λ r. ⌜ r ≡ batchNumber (now (batch .entry)) ⌝ }
+// taken, and then the checksums of its bodies stand at the front of a list.
+fn batch_number(batch: &[u8], sums: &mut [u32]) -> u32
+    requires { ⌜ maxBodies ≤ length (now sums) ⌝ }
+    ensures answer { λ r. ⌜ r ≡ batchNumber (now (batch .entry)) ⌝ }
+    ensures sums { λ r. ⌜ (r ≡ 0 → take (bodyCount (now (batch .entry))) (now (sums .exit))
+        ≡ bodySums (bodiesOf (now (batch .entry)))) ⌝ }
 {
     if !crate::form::check(batch) {
         return 10;
     }
-    crate::vectors::vectors_bad(batch)
+    crate::vectors::vectors_bad(batch, sums)
 }
 
 // The ids and types of the links at some offsets, at the front of two lists.
@@ -101,6 +106,7 @@ pub fn append(buf: &mut [u8], n: u64, batch: &[u8], ids: &[u64], timestamp: u64)
     }
     let size = n as usize;
     let mut offsets = [0u64; segment::index::MOST];
+    let mut sums = [0u32; answers::limits::MAX_BODIES];
     let found = opening::open_with(&buf[..size], &mut offsets);
     match found {
         Opened::Refused(number) => Appended::Refused(number),
@@ -108,7 +114,7 @@ pub fn append(buf: &mut [u8], n: u64, batch: &[u8], ids: &[u64], timestamp: u64)
             if size > 0 {
                 return Appended::Refused(2);
             }
-            let bad = batch_number(batch);
+            let bad = batch_number(batch, &mut sums);
             if bad != 0 {
                 return Appended::Refused(bad);
             }
@@ -116,7 +122,18 @@ pub fn append(buf: &mut [u8], n: u64, batch: &[u8], ids: &[u64], timestamp: u64)
                 return Appended::Refused(11);
             }
             let states = [0u8; answers::limits::MAX_ENTRIES];
-            crate::commit::commit(buf, batch, 0, 0, true, 0, timestamp, &mut offsets, &states)
+            crate::commit::commit(
+                buf,
+                batch,
+                0,
+                0,
+                true,
+                0,
+                timestamp,
+                &mut offsets,
+                &states,
+                &sums,
+            )
         }
         Opened::At {
             offset,
@@ -125,7 +142,7 @@ pub fn append(buf: &mut [u8], n: u64, batch: &[u8], ids: &[u64], timestamp: u64)
             count,
             tried: _,
         } => {
-            let bad = batch_number(batch);
+            let bad = batch_number(batch, &mut sums);
             if bad != 0 {
                 return Appended::Refused(bad);
             }
@@ -144,6 +161,7 @@ pub fn append(buf: &mut [u8], n: u64, batch: &[u8], ids: &[u64], timestamp: u64)
                 timestamp,
                 &mut offsets,
                 &states,
+                &sums,
             )
         }
     }

@@ -4,3 +4,4 @@ pub mod block
 pub mod check
 pub mod find
 pub mod values
+pub mod walk

@@ -5,6 +5,7 @@ pub mod check;
 pub mod find;
 pub mod lines;
 pub mod values;
+pub mod walk;
 pub mod width;
 
 ghost use mathlib.Core.Path.{_≡_};

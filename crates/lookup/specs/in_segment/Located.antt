@@ -8,12 +8,12 @@ use mathlib.Core.List.{List}
 use native.Mathlib.Omega.{arith}
 use lib.Dec.{eqb}
 use lib.ListN.{length, take, drop, getD}
-use borrow.Author.Tests.{ne-eqb}
+use Rattle.crc32c.specs.Crc.{crcOf}
 use Rattle.opening.specs.FileManifest.{manifestOf, refused-alike}
 use Rattle.opening.specs.declared.FileManifest.the-variants.{Refused as FileRefused}
 use Rattle.segment.specs.chain.Chain.{Found}
 use Rattle.segment.specs.Header.{Link, whole, kindAt, lengthAt}
-use Rattle.segment.specs.Step.{wholeAt}
+use Rattle.segment.specs.Step.{wholeAt, payload-part}
 use Rattle.segment.specs.index.Offsets.{linkNo}
 use Rattle.segment.specs.index.Numbered.{Numbered}
 use Rattle.manifest.specs.Opening.{opened, states, openedCase}
@@ -21,8 +21,9 @@ use Rattle.manifest.specs.OpeningLaws.{at-within}
 use Rattle.opening.specs.Indexed.{ManifestAt, EntryAt}
 use Rattle.vecseg.specs.Payload.{vecKind, checkOf}
 use Rattle.vecseg.specs.Find.{Place, findIn}
-use Rattle.vec_read.specs.find.Found.{foundOf}
-use Rattle.vec_read.specs.declared.find.Found.the-variants.{At, Missing as NotFound}
+use Rattle.vec_read.specs.walk.Walk.{searchedAt, searchedOf}
+use Rattle.vec_read.specs.declared.walk.Searched.{Searched}
+use Rattle.vec_read.specs.declared.walk.Searched.the-variants.{At, Missing as NotFound, Refused as SearchRefused}
 use Rattle.reading.specs.Live.{liveOf, vectorsOf, searchOrder}
 use Rattle.reading.specs.LiveLaws.{orderOf, order-all, order-retired, order-other, order-here}
 use Rattle.reading.specs.Answers.{Hit, Held, Missing, Bad, hitOf, hitInSegment, orElse, searchIn, hitFound, hitIn}
@@ -48,49 +49,74 @@ segmentHitAt f p len id =
     let s = take len (drop (p + 64) f) in
     cond (wholeAt f p len) (cond (eqb (checkOf s) 0) (placedIn (p + 64) len (findIn s id)) (Refused (checkOf s))) (Refused 4)
 
+-- what the search of a payload answers, told of the file: the place in it, and the checksum that comes with it
+unfoldable toldOf : ℕ → ℕ → Searched → Located
+toldOf body len (At sum offset count dim dtype index) = In body len offset count dim dtype index
+toldOf body len (NotFound sum) = Nowhere
+toldOf body len (SearchRefused b) = Refused b
+
+unfoldable sumOr : ℕ → Searched → ℕ
+sumOr other (At sum offset count dim dtype index) = sum
+sumOr other (NotFound sum) = sum
+sumOr other (SearchRefused b) = other
+
+told-case : (body len sum c : ℕ) (t : Bool) (o : Option Place) → toldOf body len (cond t (searchedAt sum o) (SearchRefused c)) ≡ cond t (placedIn body len o) (Refused c)
+unfolding toldOf searchedAt placedIn
+told-case body len sum c false o = refl
+told-case body len sum c true none = refl
+told-case body len sum c true (some w) = refl
+
+sum-case : (sum c : ℕ) (t : Bool) (o : Option Place) → sumOr sum (cond t (searchedAt sum o) (SearchRefused c)) ≡ sum
+unfolding sumOr searchedAt
+sum-case sum c false o = refl
+sum-case sum c true none = refl
+sum-case sum c true (some w) = refl
+
 -- the ways out, where n is the length that the code has read
 module _ (f : List ℕ) (p len id n : ℕ) (n-is : n ≡ len) where
   pub segment-torn : wholeAt f p n ≡ false → Refused 4 ≡ segmentHitAt f p len id
   unfolding segmentHitAt
   segment-torn h = rw (← n-is, h)
 
+  -- the payload, as the code takes it out of the file, is searched before it is known to be whole
+  abbrev s : List ℕ
+  s = take (p + 64 + n - (p + 64)) (drop (p + 64) f)
+
+  -- the checksum is that of the payload
+  sum-told : (sum : ℕ) (r : Searched) → searchedOf s id ≡ r → (sumOr (crcOf s) r ≡ sum) → sum ≡ crcOf (take n (drop (p + 64) f))
+  unfolding searchedOf
+  sum-told sum r e q =
+      sym q ∙ ap (sumOr (crcOf s)) (sym e) ∙ sum-case (crcOf s) (checkOf s) (eqb (checkOf s) 0) (findIn s id) ∙ ap crcOf (payload-part f p n)
+
+  pub sum-missing : (sum : ℕ) → searchedOf s id ≡ NotFound sum → sum ≡ crcOf (take n (drop (p + 64) f))
+  unfolding sumOr
+  sum-missing sum e = sum-told sum (NotFound sum) e refl
+
+  pub sum-found : (sum offset count dim dtype index : ℕ) → searchedOf s id ≡ At sum offset count dim dtype index → sum ≡ crcOf (take n (drop (p + 64) f))
+  unfolding sumOr
+  sum-found sum offset count dim dtype index e = sum-told sum (At sum offset count dim dtype index) e refl
+
+  -- where the link is whole the answer is the search's
   module _ (h : wholeAt f p n ≡ true) where
-    -- the payload, as the code takes it out of the file
-    abbrev s : List ℕ
-    s = take (p + 64 + n - (p + 64)) (drop (p + 64) f)
+    told : (r : Searched) → searchedOf s id ≡ r → toldOf (p + 64) n r ≡ segmentHitAt f p len id
+    unfolding searchedOf segmentHitAt
+    told r e =
+        rw (← n-is, h)
+        (ap (toldOf (p + 64) n) (sym e) ∙ told-case (p + 64) n (crcOf s) (checkOf s) (eqb (checkOf s) 0) (findIn s id)
+        ∙ ap (λ (x : List ℕ). cond (eqb (checkOf x) 0) (placedIn (p + 64) n (findIn x id)) (Refused (checkOf x))) (payload-part f p n))
 
-    same : s ≡ take n (drop (p + 64) f)
-    same = let e : p + 64 + n - (p + 64) ≡ n = omega arith in ap (λ (m : ℕ). take m (drop (p + 64) f)) e
+    pub segment-bad : (b : ℕ) → searchedOf s id ≡ SearchRefused b → Refused b ≡ segmentHitAt f p len id
+    unfolding toldOf
+    segment-bad b e = told (SearchRefused b) e
 
-    pub segment-bad : (b : ℕ) → b ≡ checkOf s → (b ≡ 0 → ⊥) → Refused b ≡ segmentHitAt f p len id
-    unfolding segmentHitAt
-    segment-bad b e nz =
-        let q : checkOf (take n (drop (p + 64) f)) ≡ b = ap checkOf (sym same) ∙ sym e in
-        rw (← n-is, h, q, ne-eqb b 0 nz)
+    pub segment-missing : (sum : ℕ) → searchedOf s id ≡ NotFound sum → Nowhere ≡ segmentHitAt f p len id
+    unfolding toldOf
+    segment-missing sum e = told (NotFound sum) e
 
-    module _ (ok : checkOf s ≡ 0) where
-      to-place : segmentHitAt f p len id ≡ placedIn (p + 64) n (findIn s id)
-      unfolding segmentHitAt
-      to-place =
-          let q : checkOf (take n (drop (p + 64) f)) ≡ 0 = ap checkOf (sym same) ∙ ok in
-          rw (← n-is, h, q) (ap (λ (x : List ℕ). placedIn (p + 64) n (findIn x id)) (sym same))
-
-      pub segment-missing : foundOf (findIn s id) ≡ NotFound → Nowhere ≡ segmentHitAt f p len id
-      unfolding foundOf placedIn
-      segment-missing e = sym (to-place ∙ go (findIn s id) e)
-        where
-          go : (o : Option Place) → foundOf o ≡ NotFound → placedIn (p + 64) n o ≡ Nowhere
-          go none q = refl
-          go (some w) q = absurd (let z : _≡_ {A = ℕ} 0 1 = cc in omega arith)
-
-      pub segment-found : (offset count dim dtype index : ℕ) → foundOf (findIn s id) ≡ At offset count dim dtype index
-          → In (p + 64) n offset count dim dtype index ≡ segmentHitAt f p len id
-      unfolding foundOf placedIn
-      segment-found offset count dim dtype index e = sym (to-place ∙ go (findIn s id) e)
-        where
-          go : (o : Option Place) → foundOf o ≡ At offset count dim dtype index → placedIn (p + 64) n o ≡ In (p + 64) n offset count dim dtype index
-          go none q = absurd (let z : _≡_ {A = ℕ} 0 1 = cc in omega arith)
-          go (some w) q = cc
+    pub segment-found : (sum offset count dim dtype index : ℕ) → searchedOf s id ≡ At sum offset count dim dtype index
+        → In (p + 64) n offset count dim dtype index ≡ segmentHitAt f p len id
+    unfolding toldOf
+    segment-found sum offset count dim dtype index e = told (At sum offset count dim dtype index) e
 
 -- of a link of the file
 same-hit : (l : Link) (w t : Bool) (c : ℕ) (o : Option Place)

@@ -13,19 +13,19 @@ use borrow.Author.Tests.{lt-ltb, le-ltb}
 use Rattle.octets.specs.Parts.{part-front}
 use Rattle.octets.specs.le.Le.{leOf, leAt}
 use Rattle.segment.specs.Header.{Link}
-use Rattle.vecseg.specs.Payload.{checkOf, width}
-use Rattle.vecseg.specs.LineLaws.{width-f32}
-use Rattle.vecseg.specs.Find.{Place, findIn, valueAt}
+use Rattle.vecseg.specs.Payload.{checkOf, width, columnsLength}
+use Rattle.vecseg.specs.LineLaws.{width-f32, width-most}
+use Rattle.vecseg.specs.Find.{Place, findIn, valueAt, vectorOf}
 use Rattle.vecseg.specs.FindLaws.{found-good}
-use Rattle.vec_read.specs.find.Found.{foundOf}
-use Rattle.vec_read.specs.declared.find.Found.the-variants.{At}
 use Rattle.vecseg.specs.Component.{componentOf}
 use Rattle.vec_read.specs.values.Component.{byte-wide}
 use Rattle.vecseg.specs.declared.Component.{Component}
-use Rattle.vec_read.specs.values.Vector.{Bounds, ValueRoom, value-room}
-use Rattle.vecseg.specs.Vector.{vectorIn, vectorBuffer, placedOf, placedBuffer}
-use Rattle.vec_read.specs.Vector.{get-bounds}
-use Rattle.vecseg.specs.declared.Vector.the-variants.{Refused as VectorRefused}
+use Rattle.vec_read.specs.values.Vector.{placeWith, vector-with, Bounds, ValueRoom, value-room}
+use Rattle.vecseg.specs.Vector.{readOf}
+use Rattle.vecseg.specs.declared.Vector.the-variants.{Read, Refused as VectorRefused}
+use Rattle.answers.specs.Write.{writeAnswer, writeBuffer}
+use Rattle.answers.specs.declared.Wrote.{Wrote}
+use Rattle.answers.specs.declared.Wrote.the-variants.{Length, Refused as WroteRefused}
 use Rattle.reading.specs.Answers.{Hit, Held, Missing, Bad, hitIn, vectorHit, bufferHit, vectorCase, vectorAfter, Value, Stored, NoValue, valueHit, valueIn}
 use Rattle.reading.specs.Placed.{HeldIn, hit-in}
 use Rattle.lookup.specs.in_segment.Located.{locatedOf}
@@ -112,25 +112,51 @@ module _ (f : List ℕ) (id body len offset count dim dtype index : ℕ) (e : lo
       let n : body + len - body ≡ length (found .link .payload) = omega (arith, found .length-is) in
       ap (λ (k : ℕ). take k (drop body f)) n ∙ ap (λ (k : ℕ). take (length (found .link .payload)) (drop k f)) (sym (found .body-is)) ∙ sym (held .lies .bytes)
 
-  pub part-sound : checkOf part ≡ 0
+  part-sound : checkOf part ≡ 0
   part-sound = ap checkOf part-is ∙ held .good .checked
 
   place-is : findIn part id ≡ some (found .place)
   place-is = ap (λ (s : List ℕ). findIn s id) part-is ∙ held .place
 
-  pub part-found : foundOf (findIn part id) ≡ At offset count dim dtype index
-  unfolding foundOf
-  part-found = ap foundOf place-is ∙ rw (found .offset-is, found .count-is, found .dim-is, found .dtype-is, found .index-is)
-
-  -- the vector of the file is that of the part
-  pub vector-part : (buf : List ℕ) → (vectorIn part id buf ≡ vectorCase f id buf) × (vectorBuffer part id buf ≡ vectorAfter f id buf)
-  unfolding vectorIn vectorBuffer vectorCase vectorAfter vectorHit bufferHit placedOf placedBuffer
-  vector-part buf =
-      rw (part-sound, place-is, found .hit)
-      (ap (λ (s : List ℕ). placedOf s (some (found .place)) buf) part-is, ap (λ (s : List ℕ). placedBuffer s (some (found .place)) buf) part-is)
-
   pub part-bounds : Bounds (length part) offset count dim (width dtype) index
-  part-bounds = get-bounds part id [] part-sound offset count dim dtype index part-found
+  unfolding columnsLength
+  part-bounds =
+      let w = found in
+      let g = found-good part part-sound id (w .place) place-is in
+      let c : w .place .line .count * w .place .line .dim * width (w .place .line .dtype) ≡ count * dim * width dtype = rw (w .count-is, w .dim-is, w .dtype-is) in
+      record {
+        most = omega (arith, g .line .most, w .count-is);
+        at-most = omega (arith, g .line .at-most, w .dim-is);
+        small = width-most dtype;
+        room = omega (arith, g .room, w .offset-is, c);
+        index-in = omega (arith, g .index-in, w .index-is, w .count-is);
+      }
+
+  -- the vector, as the code writes it by the numbers that it was told
+  abbrev told : List ℕ
+  told = vectorOf part (placeWith offset count dim dtype index)
+
+  told-is : vectorOf (found .link .payload) (found .place) ≡ told
+  told-is =
+      let w = found in
+      ap (λ (s : List ℕ). vectorOf s (w .place)) (sym part-is) ∙ vector-with part (w .place) ∙ rw (w .offset-is, w .count-is, w .dim-is, w .dtype-is, w .index-is)
+
+  module _ (buf : List ℕ) (n : ℕ) (exit : List ℕ) (x : exit ≡ writeBuffer 0 told buf) where
+    after : exit ≡ vectorAfter f id buf
+    unfolding vectorAfter bufferHit
+    after = x ∙ sym (ap (bufferHit buf) (found .hit) ∙ ap (λ (v : List ℕ). writeBuffer 0 v buf) told-is)
+
+    wrote : (o : Wrote) → writeAnswer 0 told buf ≡ o → vectorCase f id buf ≡ readOf (found .place) o
+    unfolding vectorCase vectorHit
+    wrote o a = ap (vectorHit buf) (found .hit) ∙ ap (readOf (found .place)) (ap (λ (v : List ℕ). writeAnswer 0 v buf) told-is ∙ a)
+
+    pub vector-short : writeAnswer 0 told buf ≡ WroteRefused n → (VectorRefused n ≡ vectorCase f id buf) × (exit ≡ vectorAfter f id buf)
+    unfolding readOf
+    vector-short a = (sym (wrote (WroteRefused n) a), after)
+
+    pub vector-read : writeAnswer 0 told buf ≡ Length n → (Read dim dtype n ≡ vectorCase f id buf) × (exit ≡ vectorAfter f id buf)
+    unfolding readOf
+    vector-read a = (sym (wrote (Length n) a ∙ rw (found .dim-is, found .dtype-is)), after)
 
   part-length : length part ≡ len
   part-length =

@@ -1,25 +1,27 @@
 -- `append::bodies::put_bodies` meets its contract, by where the loop over the bodies stands.
 -- Assumes nothing.
 use Prim.Native.Nat.{_+_, _-_, _*_, _≤_, _<_}
-use mathlib.Core.Path.{_≡_, refl, ap, _∙_}
+use mathlib.Core.Path.{_≡_, refl, sym, ap, _∙_}
 use native.Mathlib.Omega.{arith}
-use lib.ListN.{length, take, drop, length-take, length-drop}
+use lib.ListN.{length, take, drop, getD, length-take, length-drop}
 use Rattle.octets.specs.Parts.{back}
 use Rattle.octets.specs.Round.{round64}
+use Rattle.crc32c.specs.Crc.{crcOf}
 use Rattle.batch.specs.Form.{bodiesOf}
 use Rattle.batch.specs.Lines.{noBody, bodies-count, count-is, held-bounds, body-at}
 use Rattle.append.specs.bodies.Bodies.{BodiesPut, put-first, put-room, put-next, put-last}
 use Rattle.append.specs.bodies.Laid.{body-part, body-inside, body-segment, body-length}
+use Rattle.append.specs.vectors.Vectors.{sum-at}
 use borrow.Author.Needs.{needs}
 use Rattle.append.proofs.bodies.put_bodies.Statement.{statement}
 use Rattle.append.proofs.bodies.put_bodies.Tie as tie
 
 abbrev Inv-loop : tie.InvT-loop
-Inv-loop buf₀ batch start first-id timestamp offsets₀ kept m at₀ j₀ buf offsets at j =
+Inv-loop buf₀ batch start first-id timestamp offsets₀ kept sums m at₀ j₀ buf offsets at j =
     BodiesPut (bodiesOf batch) start first-id timestamp kept buf₀ buf offsets₀ offsets at j
 
 abbrev μ-loop : tie.MeasureT-loop
-μ-loop buf₀ batch start first-id timestamp offsets₀ kept m at₀ j₀ buf offsets at j = m - j
+μ-loop buf₀ batch start first-id timestamp offsets₀ kept sums m at₀ j₀ buf offsets at j = m - j
 
 -- In the loop: the body `j` is one of the batch's, and its line lies in the batch.
 module _ (b : tie.In-loop Inv-loop μ-loop) where
@@ -27,7 +29,7 @@ module _ (b : tie.In-loop Inv-loop μ-loop) where
   l = b .before
 
   abbrev s : tie.Start Inv-loop μ-loop
-  s = l .before .before .before .before .before
+  s = l .before .before .before .before .before .before
 
   more : l .loop .j < length (bodiesOf (s .args .batch .now))
   more =
@@ -36,6 +38,13 @@ module _ (b : tie.In-loop Inv-loop μ-loop) where
 
   line-room : 16 + 16 * l .loop .j + 16 ≤ length (s .args .batch .now)
   line-room = body-at (s .args .batch .now) (s .pre .0 .0) (l .loop .j) (omega (arith, more, bodies-count (s .args .batch .now))) .line-room
+
+  -- its checksum is known
+  sum-known : (l .loop .j < length (s .args .sums .now))
+      × (getD (s .args .sums .now) (l .loop .j) 0 ≡ crcOf (getD (bodiesOf (s .args .batch .now)) (l .loop .j) noBody .payload))
+  sum-known =
+      let n = bodies-count (s .args .batch .now) in
+      sum-at (bodiesOf (s .args .batch .now)) _ (s .args .sums .now) n (s .pre .1 .1) (l .loop .j) (omega (arith, more, n))
 
   at-room : l .loop .at ≤ length (l .loop .buf)
   at-room = omega (arith, put-room _ _ _ _ _ _ _ _ _ _ _ (l .loop .inv) more noBody (s .pre .0 .1))
@@ -52,7 +61,7 @@ inside t =
 
 u32-at-requires : tie.Need-u32-at-requires Inv-loop μ-loop
 u32-at-requires c κs =
-    let s = c .before .before .before in
+    let s = c .before .before .before .before in
     omega (arith, held-bounds (s .args .batch .now) (s .pre .0 .0))
 
 loop-holds : tie.Need-loop-holds Inv-loop μ-loop
@@ -79,47 +88,50 @@ add-u32-at-2 c = omega (arith, line-room (c .before .before .before))
 u32-at-requires-3 : tie.Need-u32-at-requires-3 Inv-loop μ-loop
 u32-at-requires-3 c κs = omega (arith, line-room (c .before .before .before))
 
+shared-slice-read-sum : tie.Need-shared-slice-read-sum Inv-loop μ-loop
+shared-slice-read-sum c = sum-known (c .before .before .before .before .before) .0
+
 add-offsets : tie.Need-add-offsets Inv-loop μ-loop
 add-offsets c =
-    let b = c .before .before .before .before in
-    omega (arith, more b, bodies-count (s b .args .batch .now), l b .loop .inv .many, s b .pre .1 .1)
+    let b = c .before .before .before .before .before in
+    omega (arith, more b, bodies-count (s b .args .batch .now), l b .loop .inv .many, s b .pre .1 .0 .1)
 
 mul-offsets : tie.Need-mul-offsets Inv-loop μ-loop
 mul-offsets c =
-    let b = c .before .before .before .before in
-    omega (arith, more b, bodies-count (s b .args .batch .now), l b .loop .inv .many, s b .pre .1 .1)
+    let b = c .before .before .before .before .before in
+    omega (arith, more b, bodies-count (s b .args .batch .now), l b .loop .inv .many, s b .pre .1 .0 .1)
 
 slice-write-offsets : tie.Need-slice-write-offsets Inv-loop μ-loop
 slice-write-offsets c =
-    let b = c .before .before .before .before in
-    omega (arith, more b, bodies-count (s b .args .batch .now), l b .loop .inv .many, s b .pre .1 .1)
-
-sub-put-segment : tie.Need-sub-put-segment Inv-loop μ-loop
-sub-put-segment c = omega (arith, at-room (c .before .before .before .before))
-
-part-put-segment-start : tie.Need-part-put-segment-start Inv-loop μ-loop
-part-put-segment-start c = omega (arith, at-room (c .before .before .before .before))
-
-part-put-segment-end : tie.Need-part-put-segment-end Inv-loop μ-loop
-part-put-segment-end c = omega (arith, at-room (c .before .before .before .before))
-
-add-put-segment : tie.Need-add-put-segment Inv-loop μ-loop
-add-put-segment c =
     let b = c .before .before .before .before .before in
-    omega (arith, more b, bodies-count (s b .args .batch .now), s b .pre .1 .0)
+    omega (arith, more b, bodies-count (s b .args .batch .now), l b .loop .inv .many, s b .pre .1 .0 .1)
 
-sub-put-segment-2 : tie.Need-sub-put-segment-2 Inv-loop μ-loop
-sub-put-segment-2 c = omega (arith, inside (c .before))
+sub-put-segment-by : tie.Need-sub-put-segment-by Inv-loop μ-loop
+sub-put-segment-by c = omega (arith, at-room (c .before .before .before .before .before))
 
-part-put-segment-start-2 : tie.Need-part-put-segment-start-2 Inv-loop μ-loop
-part-put-segment-start-2 c = omega (arith, inside (c .before))
+part-put-segment-by-start : tie.Need-part-put-segment-by-start Inv-loop μ-loop
+part-put-segment-by-start c = omega (arith, at-room (c .before .before .before .before .before))
 
-part-put-segment-end-2 : tie.Need-part-put-segment-end-2 Inv-loop μ-loop
-part-put-segment-end-2 c = omega (arith, inside (c .before))
+part-put-segment-by-end : tie.Need-part-put-segment-by-end Inv-loop μ-loop
+part-put-segment-by-end c = omega (arith, at-room (c .before .before .before .before .before))
 
-put-segment-requires : tie.Need-put-segment-requires Inv-loop μ-loop
-put-segment-requires c κs =
-    let ua3 = c .before .before in
+add-put-segment-by : tie.Need-add-put-segment-by Inv-loop μ-loop
+add-put-segment-by c =
+    let b = c .before .before .before .before .before .before in
+    omega (arith, more b, bodies-count (s b .args .batch .now), s b .pre .1 .0 .0)
+
+sub-put-segment-by-2 : tie.Need-sub-put-segment-by-2 Inv-loop μ-loop
+sub-put-segment-by-2 c = omega (arith, inside (c .before .before))
+
+part-put-segment-by-start-2 : tie.Need-part-put-segment-by-start-2 Inv-loop μ-loop
+part-put-segment-by-start-2 c = omega (arith, inside (c .before .before))
+
+part-put-segment-by-end-2 : tie.Need-part-put-segment-by-end-2 Inv-loop μ-loop
+part-put-segment-by-end-2 c = omega (arith, inside (c .before .before))
+
+put-segment-by-requires : tie.Need-put-segment-by-requires Inv-loop μ-loop
+put-segment-by-requires c κs =
+    let ua3 = c .before .before .before in
     let ua2 = ua3 .before in
     let b = ua2 .before .before .before in
     let at = l b .loop .at in
@@ -132,11 +144,11 @@ put-segment-requires c κs =
     let e : round64 (length (take (ua2 .u32-at2 .result + ua3 .u32-at3 .result - ua2 .u32-at2 .result)
     (drop (ua2 .u32-at2 .result) batch))) ≡ round64 _ =
     ap round64 (ap length p) in
-    omega (arith, e, length-take (length buf - at) (drop at buf), length-drop at buf)
+    (omega (arith, e, length-take (length buf - at) (drop at buf), length-drop at buf), sum-known b .1 ∙ ap crcOf (sym p))
 
 add-at : tie.Need-add-at Inv-loop μ-loop
 add-at c =
-    let ua3 = c .before .before .before .before .before in
+    let ua3 = c .before .before .before .before .before .before in
     let ua2 = ua3 .before in
     let b = ua2 .before .before .before in
     let batch = s b .args .batch .now in
@@ -144,15 +156,15 @@ add-at c =
     let a = body-at batch (s b .pre .0 .0) j (omega (arith, more b, bodies-count batch)) in
     let r = put-room _ _ _ _ _ _ _ _ _ _ _ (l b .loop .inv) (more b) noBody (s b .pre .0 .1) in
     let z =
-    c .before .before .put-segment .ensures .0
+    c .before .before .put-segment-by .ensures .0
     ∙ body-length batch j a (ua2 .u32-at2 .result) (ua3 .u32-at3 .result) (ua2 .u32-at2 .ensures) (ua3 .u32-at3 .ensures)
     _ _ (s b .args .first-id + j) (s b .args .timestamp) in
-    omega (arith, z)
+    omega (arith, z, l b .loop .inv .same-length, s b .good)
 
 loop-again : tie.Need-loop-again Inv-loop μ-loop
 loop-again c =
     let ps = c .before .before in
-    let ua3 = ps .before .before .before in
+    let ua3 = ps .before .before .before .before in
     let ua2 = ua3 .before in
     let b = ua2 .before .before .before in
     let s = s b in
@@ -163,19 +175,19 @@ loop-again c =
     let a = body-at batch (s .pre .0 .0) j (omega (arith, more b, n)) in
     let r = put-room _ _ _ _ _ _ _ _ _ _ _ (l b .loop .inv) (more b) noBody (s .pre .0 .1) in
     let z =
-    ps .put-segment .ensures .0
+    ps .put-segment-by .ensures .0
     ∙ body-length batch j a (ua2 .u32-at2 .result) (ua3 .u32-at3 .result) (ua2 .u32-at2 .ensures) (ua3 .u32-at3 .ensures)
     _ _ (s .args .first-id + j) (s .args .timestamp) in
     put-next _ _ _ _ _ _ _ _ _ _ _ (l b .loop .inv) (more b) noBody (s .pre .0 .1) _ _ _
     (body-segment batch j a (ua2 .u32-at2 .result) (ua3 .u32-at3 .result) (ua2 .u32-at2 .ensures) (ua3 .u32-at3 .ensures)
     _ _ (s .args .first-id + j) (s .args .timestamp) refl (ua2 .before .u16-at .ensures))
-    (ps .put-segment .ensures .0)
-    (back _ _ _ _ (ps .put-segment .ensures .1) (omega (arith, z, ps .put-segment .ensures .0))) (omega (arith, s .pre .1 .1))
+    (ps .put-segment-by .ensures .0)
+    (back _ _ _ _ (ps .put-segment-by .ensures .1) (omega (arith, z, ps .put-segment-by .ensures .0))) (omega (arith, s .pre .1 .0 .1))
 
 returns : tie.Need-returns Inv-loop μ-loop
 returns c =
     let u = c .before .before in
-    let batch = u .before .before .before .before .args .batch .now in
+    let batch = u .before .before .before .before .before .args .batch .now in
     let n = bodies-count batch in
     let k = count-is batch (u .u32-at .result) (u .u32-at .ensures) in
     put-last _ _ _ _ _ _ _ _ _ _ _ (c .before .loop .inv) (omega arith)
@@ -187,7 +199,7 @@ put-bodies-spec =
     Inv-loop μ-loop u32-at-requires (search needs) loop-holds (λ c. omega (arith, line-room c))
     (λ c. omega (arith, line-room c)) shared-slice-read-kind add-u16-at u16-at-requires add-u32-at
     u32-at-requires-2 (search needs) add-u32-at-2 u32-at-requires-3 (search needs)
-    (λ c. omega (arith, inside c)) add-offsets mul-offsets slice-write-offsets sub-put-segment
-    part-put-segment-start part-put-segment-end add-put-segment sub-put-segment-2 part-put-segment-start-2
-    part-put-segment-end-2 put-segment-requires add-at (search needs) (search needs) loop-again (search needs)
+    (λ c. omega (arith, inside c)) (search needs) shared-slice-read-sum add-offsets mul-offsets slice-write-offsets
+    sub-put-segment-by part-put-segment-by-start part-put-segment-by-end add-put-segment-by sub-put-segment-by-2
+    part-put-segment-by-start-2 part-put-segment-by-end-2 put-segment-by-requires add-at (search needs) (search needs) loop-again (search needs)
     (search needs) returns)

@@ -25,7 +25,7 @@ use Rattle.append.proofs.commit.commit.Tie as tie
 -- Where the batch's count `m` is read: the numbers of the new manifest. `s` is the call.
 module _ (u : tie.After-u32-at) where
   abbrev s : tie.Start
-  s = u .before .before .before .before .before
+  s = u .before .before .before .before .before .before
 
   abbrev m : ℕ
   m = u .u32-at .result
@@ -35,13 +35,13 @@ module _ (u : tie.After-u32-at) where
 
   count-new : s .args .kept + m ≡ newCount (opened (take (s .args .start) (s .args .buf .now))) (bodiesOf (s .args .batch .now))
   count-new =
-      count-number _ _ _ _ m next (s .pre .1 .start-is) (s .pre .1 .count-is)
-      (bodies-count (s .args .batch .now) ∙ sym (count-is (s .args .batch .now) m (u .u32-at .ensures))) (s .pre .1 .next-is)
+      count-number _ _ _ _ m next (s .pre .1 .0 .start-is) (s .pre .1 .0 .count-is)
+      (bodies-count (s .args .batch .now) ∙ sym (count-is (s .args .batch .now) m (u .u32-at .ensures))) (s .pre .1 .0 .next-is)
 
   id-new : next + m ≡ manifestId (opened (take (s .args .start) (s .args .buf .now))) (bodiesOf (s .args .batch .now))
   id-new =
-      id-number _ _ _ _ m next (s .pre .1 .start-is) (s .pre .1 .count-is)
-      (bodies-count (s .args .batch .now) ∙ sym (count-is (s .args .batch .now) m (u .u32-at .ensures))) (s .pre .1 .next-is)
+      id-number _ _ _ _ m next (s .pre .1 .0 .start-is) (s .pre .1 .0 .count-is)
+      (bodies-count (s .args .batch .now) ∙ sym (count-is (s .args .batch .now) m (u .u32-at .ensures))) (s .pre .1 .0 .next-is)
 
 -- Where the ids suffice.
 module _ (e : tie.Else2) where
@@ -58,7 +58,7 @@ module _ (e : tie.Else2) where
 bodies-small : (b : tie.After-bodies-end) → b .bodies-end .result ≤ 17827840
 bodies-small b =
     let s = s (u (b .before .before)) in
-    omega (arith, b .bodies-end .ensures, bodies-most (s .args .batch .now) (s .args .start) (s .pre .0 .0) (s .pre .1 .small))
+    omega (arith, b .bodies-end .ensures, bodies-most (s .args .batch .now) (s .args .start) (s .pre .0 .0) (s .pre .1 .0 .small))
 
 -- Where the file's new end is known.
 module _ (r : tie.After-round-up2) where
@@ -71,8 +71,8 @@ module _ (r : tie.After-round-up2) where
   end-new : b .bodies-end .result + 64 + r .round-up2 .result
       ≡ newEnd (opened (take (s v .args .start) (s v .args .buf .now))) (bodiesOf (s v .args .batch .now))
   end-new =
-      end-number _ _ _ _ (m v) (next v) (s v .pre .1 .start-is) (s v .pre .1 .count-is)
-      (bodies-count (s v .args .batch .now) ∙ sym (count-is (s v .args .batch .now) (m v) (v .u32-at .ensures))) (s v .pre .1 .next-is)
+      end-number _ _ _ _ (m v) (next v) (s v .pre .1 .0 .start-is) (s v .pre .1 .0 .count-is)
+      (bodies-count (s v .args .batch .now) ∙ sym (count-is (s v .args .batch .now) (m v) (v .u32-at .ensures))) (s v .pre .1 .0 .next-is)
       _ _ _ (b .bodies-end .ensures) (r .before .round-up .ensures) (r .round-up2 .ensures)
 
 -- Where the bodies are laid: the lists that the manifest is made of.
@@ -106,7 +106,7 @@ module _ (p : tie.After-put-bodies) where
 
 u32-at-requires : tie.Need-u32-at-requires
 u32-at-requires c κs =
-    let s = c .before .before .before .before in
+    let s = c .before .before .before .before .before in
     let q = held-bounds (s .args .batch .now) (s .pre .0 .0) in
     omega arith
 
@@ -114,7 +114,7 @@ add-count : tie.Need-add-count
 add-count c =
     let q = held-bounds (s c .args .batch .now) (s c .pre .0 .0) in
     let m-is = count-is (s c .args .batch .now) (m c) (c .u32-at .ensures) in
-    omega (arith, s c .pre .1 .at-most)
+    omega (arith, s c .pre .1 .0 .at-most)
 
 returns : tie.Need-returns
 returns c = commit-entries _ _ _ _ _ (omega (arith, count-new (c .before)))
@@ -134,7 +134,7 @@ returns-2 c =
 bodies-end-requires : tie.Need-bodies-end-requires
 bodies-end-requires c κs =
     let s = s (u (c .before)) in
-    (s .pre .0 .0, s .pre .1 .small)
+    (s .pre .0 .0, s .pre .1 .0 .small)
 
 add-round-up-2 : tie.Need-add-round-up-2
 add-round-up-2 c =
@@ -176,7 +176,7 @@ put-bodies-requires c κs =
     let u = u (n .before) in
     let m-is = count-is (s u .args .batch .now) (m u) (u .u32-at .ensures) in (
       (s u .pre .0 .0, omega (arith, b .bodies-end .ensures)),
-      (omega (arith, n .next-id .ensures, id-fits (n .before), m-is), omega (arith, m-is, s u .pre .0 .1 .0)),
+      ((omega (arith, n .next-id .ensures, id-fits (n .before), m-is), omega (arith, m-is, s u .pre .0 .1 .0)), s u .pre .1 .1),
     )
 
 slice-aggregate-put-manifest : tie.Need-slice-aggregate-put-manifest
@@ -198,7 +198,7 @@ put-manifest-requires c κs =
         (omega (arith, pl, pr, p .put-bodies .kept .0), omega arith),
         written-inside (s .args .buf .now) (s .args .offsets .now) (s .args .batch .now) (s .args .start)
             (s .args .kept) (s .args .first) (s .args .last)
-            (s .pre .1) (s .pre .0 .0) (s .args .timestamp) (s .fits .timestamp .fits) (n p .next-id .result) (m (w p)) (n p .next-id .ensures)
+            (s .pre .1 .0) (s .pre .0 .0) (s .args .timestamp) (s .fits .timestamp .fits) (n p .next-id .result) (m (w p)) (n p .next-id .ensures)
             (count-is (s .args .batch .now) (m (w p)) (w p .u32-at .ensures)) (ids-fit p) (b (r p) .bodies-end .result) (b (r p) .bodies-end .ensures)
             (omega arith) (omega arith) (omega (arith, at-most p, s .pre .0 .1 .0))
             (p .put-bodies .last .0) (p .put-bodies .last .1 .1 .1 .1 .1 .0) (p .put-bodies .ensures .0) (p .put-bodies .ensures .1),
@@ -214,7 +214,7 @@ returns-5 c =
     commit-done _ _ _ _ _ (omega (arith, at-most p, count-new (w p))) (id-enough (n p .before)) (omega (arith, e)) (omega (arith, e)) _ _ _ _ e
     (ap (λ (k : ℕ). k + m (w p)) (n p .next-id .ensures) ∙ id-new (w p)) (count-new (w p))
     (written-all (s .args .buf .now) (s .args .offsets .now) (s .args .batch .now) (s .args .start) (s .args .kept) (s .args .first) (s .args .last)
-    (s .pre .1) (s .pre .0 .0) (s .args .timestamp) (s .fits .timestamp .fits) (n p .next-id .result) (m (w p)) (n p .next-id .ensures)
+    (s .pre .1 .0) (s .pre .0 .0) (s .args .timestamp) (s .fits .timestamp .fits) (n p .next-id .result) (m (w p)) (n p .next-id .ensures)
     (count-is (s .args .batch .now) (m (w p)) (w p .u32-at .ensures)) (ids-fit p) (b (r p) .bodies-end .result) (b (r p) .bodies-end .ensures)
     (omega arith) (omega arith) (omega (arith, at-most p, s .pre .0 .1 .0))
     (p .put-bodies .last .0) (p .put-bodies .last .1 .1 .1 .1 .1 .0) (p .put-bodies .ensures .0) (p .put-bodies .ensures .1)

@@ -2,8 +2,7 @@
 -- Assumes nothing.
 use mathlib.Core.Path.{sym, _∙_}
 use native.Mathlib.Omega.{arith}
-use Rattle.vec_read.specs.Vector.{get-short, get-read}
-use Rattle.lookup.specs.vector.Value.{vector-refused, vector-nowhere, part-room, part-sound, part-found, part-bounds, vector-part}
+use Rattle.lookup.specs.vector.Value.{vector-refused, vector-nowhere, part-room, part-bounds, vector-short, vector-read}
 use borrow.Author.Needs.{needs}
 use Rattle.lookup.proofs.vector.vector.Statement.{statement}
 use Rattle.lookup.proofs.vector.vector.Tie as tie
@@ -41,23 +40,15 @@ returns-3 : tie.Need-returns-3
 returns-3 c =
     let rv = c .before .before .before .before .before in
     let p2 = rv .before .before .before .before in
-    let l = p2 .before .before in
-    let p = vector-part _ _ _ _ _ _ _ _ _ (sym (l .find .ensures) ∙ p2 .place2 .given .1) (l .before .before .before .args .buf .now) in
-    let g = get-short _ _ _ (part-sound _ _ _ _ _ _ _ _ _ (sym (l .find .ensures) ∙ p2 .place2 .given .1)) _ _ _
-    _ _ (part-found _ _ _ _ _ _ _ _ _ (sym (l .find .ensures) ∙ p2 .place2 .given .1)) _ _
-    (sym (rv .read-vector .ensures .0) ∙ c .before .w .given .1) (rv .read-vector .ensures .1) in
-    (g .0 ∙ p .0, g .1 ∙ p .1)
+    vector-short _ _ _ _ _ _ _ _ _ (sym (p2 .before .before .find .ensures) ∙ p2 .place2 .given .1) _ _ _ (rv .read-vector .ensures .1)
+    (sym (rv .read-vector .ensures .0) ∙ c .before .w .given .1)
 
 returns-4 : tie.Need-returns-4
 returns-4 c =
     let rv = c .before .before .before .before .before in
     let p2 = rv .before .before .before .before in
-    let l = p2 .before .before in
-    let p = vector-part _ _ _ _ _ _ _ _ _ (sym (l .find .ensures) ∙ p2 .place2 .given .1) (l .before .before .before .args .buf .now) in
-    let g = get-read _ _ _ (part-sound _ _ _ _ _ _ _ _ _ (sym (l .find .ensures) ∙ p2 .place2 .given .1)) _ _ _ _
-    _ (part-found _ _ _ _ _ _ _ _ _ (sym (l .find .ensures) ∙ p2 .place2 .given .1)) _ _
-    (sym (rv .read-vector .ensures .0) ∙ c .before .w2 .given .1) (rv .read-vector .ensures .1) in
-    (g .0 ∙ p .0, g .1 ∙ p .1)
+    vector-read _ _ _ _ _ _ _ _ _ (sym (p2 .before .before .find .ensures) ∙ p2 .place2 .given .1) _ _ _ (rv .read-vector .ensures .1)
+    (sym (rv .read-vector .ensures .0) ∙ c .before .w2 .given .1)
 
 pub vector-spec : {M : Type 1} → statement M
 vector-spec =

@@ -1,0 +1,2 @@
+-- What the walk over a payload answers.
+pub mod Walk
