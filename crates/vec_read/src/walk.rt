@@ -1,0 +1,190 @@
+// One walk over a VEC_SEG payload's blocks that checks them. On its way it joins the payload's checksum from those of
+// the blocks, and looks for a vector id among the ids that the check has just read, where it is asked to.
+ghost use mathlib.Core.Path.{_≡_};
+ghost use Prim.Native.Nat.{_≤_};
+ghost use lib.ListN.{length, take};
+ghost use Rattle.octets.specs.numbers.Numbers.{indexOf};
+ghost use Rattle.answers.specs.limits.Limits.{maxVectors};
+ghost use Rattle.vec_read.specs.lines.Directory.{DirectoryGood};
+ghost use Rattle.vec_read.specs.walk.Walk.{summedOf, searchedOf, sumOf, lookedOf, walkedOf};
+ghost use Rattle.vec_read.specs.walk.Sum.{Joins};
+use crate::block::Block;
+use octets::numbers::Index;
+
+// What a check that keeps the payload's checksum answers.
+pub enum Summed {
+    Sound(u32),
+    Refused(u32),
+}
+
+// What a search that checks the payload on its way answers: where the vector stands (its block's offset, count, dim
+// and dtype, and which vector of the block it is) or that it is missing, each with the payload's checksum; or the
+// number that refuses the payload.
+pub enum Searched {
+    At {
+        sum: u32,
+        offset: usize,
+        count: usize,
+        dim: usize,
+        dtype: u8,
+        index: usize,
+    },
+    Missing(u32),
+    Refused(u32),
+}
+
+// The place that is kept on the way: of the last block so far that holds the id.
+pub enum Kept {
+    At {
+        offset: usize,
+        count: usize,
+        dim: usize,
+        dtype: u8,
+        index: usize,
+    },
+    Nowhere,
+}
+
+// The checksum of the part before the first block; 0 where none is asked for.
+fn sum_first(summed: bool, part: &[u8]) -> u32
+    ensures { λ r. ⌜ r ≡ sumOf summed (now (part .entry)) ⌝ }
+{
+    if summed {
+        return crc32c::checksum(part);
+    }
+    0
+}
+
+// The checksum taken on over a sound block, from at to next. What stands before end has the checksum that the block
+// holds there, so its bytes are not looked at again.
+fn sum_on(summed: bool, sum: u32, s: &[u8], at: usize, end: usize, next: usize) -> u32
+    requires { ⌜ Joins summed sum (now s) at end next ⌝ }
+    ensures { λ r. ⌜ r ≡ sumOf summed (take next (now (s .entry))) ⌝ }
+{
+    if !summed {
+        return sum;
+    }
+    let known = octets::le::u32_at(s, end);
+    let joined = crc_join::extend_by(sum, &s[at..end], known);
+    crc32c::extend(joined, &s[end..next])
+}
+
+// The place that is kept behind a block, whose ids are at hand. Ids may repeat, and the last copy counts.
+fn look(
+    looking: bool,
+    ids: &[u64],
+    id: u64,
+    offset: usize,
+    count: usize,
+    dim: usize,
+    dtype: u8,
+    kept: Kept,
+) -> Kept
+    requires { ⌜ count ≤ length (now ids) ⌝ }
+    ensures { λ r. ⌜ r ≡ lookedOf looking (indexOf id (take count (now (ids .entry)))) offset count dim dtype kept ⌝ }
+{
+    if !looking {
+        return kept;
+    }
+    let place = octets::numbers::index_of(ids, count, id);
+    match place {
+        Index::Nowhere => kept,
+        Index::Place(index) => Kept::At {
+            offset,
+            count,
+            dim,
+            dtype,
+            index,
+        },
+    }
+}
+
+// The blocks of a payload whose directory is good; each is handed over as the part of the payload from its place.
+fn walk_blocks(s: &[u8], id: u64, summed: bool, looking: bool, scratch: &mut [u64]) -> Searched
+    requires { ⌜ (DirectoryGood (now s)) × (maxVectors ≤ length (now scratch)) ⌝ }
+    ensures { λ r. ⌜ r ≡ walkedOf summed looking (now (s .entry)) id ⌝ }
+{
+    let blocks = octets::le::u32_at(s, 0) as usize;
+    let start = octets::round_up(4 + 12 * blocks);
+    let mut sum = sum_first(summed, &s[..start]);
+    let mut kept = Kept::Nowhere;
+    let mut i: usize = 0;
+    let mut at = start;
+    while i < blocks {
+        let line = 4 + 12 * i;
+        if octets::le::u32_at(s, line) as usize != at {
+            return Searched::Refused(5);
+        }
+        let count = octets::le::u32_at(s, line + 4) as usize;
+        let dim = octets::le::u16_at(s, line + 8) as usize;
+        let dtype = s[line + 10];
+        let b = crate::block::check_block(&s[at..], count, dim, dtype, scratch);
+        match b {
+            Block::Refused(number) => return Searched::Refused(number),
+            Block::Sound(n) => {
+                let end = at + n;
+                let next = at + octets::round_up(n + 4);
+                sum = sum_on(summed, sum, s, at, end, next);
+                kept = look(looking, scratch, id, at, count, dim, dtype, kept);
+                at = next;
+                i += 1;
+            }
+        }
+    }
+    if s.len() != at {
+        return Searched::Refused(5);
+    }
+    match kept {
+        Kept::Nowhere => Searched::Missing(sum),
+        Kept::At {
+            offset,
+            count,
+            dim,
+            dtype,
+            index,
+        } => Searched::At {
+            sum,
+            offset,
+            count,
+            dim,
+            dtype,
+            index,
+        },
+    }
+}
+
+// The walk with a list of our own for the ids of a block.
+pub fn walk(s: &[u8], id: u64, summed: bool, looking: bool) -> Searched
+    ensures { λ r. ⌜ r ≡ walkedOf summed looking (now (s .entry)) id ⌝ }
+{
+    let bad = crate::lines::check_directory(s);
+    if bad != 0 {
+        return Searched::Refused(bad);
+    }
+    let mut scratch = [0u64; answers::limits::MAX_VECTORS];
+    walk_blocks(s, id, summed, looking, &mut scratch)
+}
+
+// The check that keeps the payload's checksum.
+pub fn check_summed(s: &[u8]) -> Summed
+    ensures { λ r. ⌜ r ≡ summedOf (now (s .entry)) ⌝ }
+{
+    let w = walk(s, 0, true, false);
+    match w {
+        Searched::Refused(number) => Summed::Refused(number),
+        Searched::Missing(sum) => Summed::Sound(sum),
+        Searched::At { sum, .. } => Summed::Sound(sum),
+    }
+}
+
+// The search, with the caller's list for the ids of a block.
+pub fn search(s: &[u8], id: u64, scratch: &mut [u64]) -> Searched
+    requires { ⌜ maxVectors ≤ length (now scratch) ⌝ }
+    ensures { λ r. ⌜ r ≡ searchedOf (now (s .entry)) id ⌝ }
+{
+    let bad = crate::lines::check_directory(s);
+    if bad != 0 {
+        return Searched::Refused(bad);
+    }
+    walk_blocks(s, id, true, true, scratch)
+}
