@@ -98,14 +98,14 @@ module _ (s : List ℕ) (id : ℕ) (buf : List ℕ) where
 -- ---- what the walk that looks for the id, and takes no checksum, says
 
 module _ (s : List ℕ) (id : ℕ) where
-  pub walk-bad : (e : ℕ) → walkedOf false true s id ≡ NotSound e → (e ≡ checkOf s) × (e ≡ 0 → ⊥)
-  walk-bad e p = was-bad false true s id e p
+  pub found-bad : (e : ℕ) → walkedOf false true s id ≡ NotSound e → (e ≡ checkOf s) × (e ≡ 0 → ⊥)
+  found-bad e p = was-bad false true s id e p
 
-  pub walk-missing : (sum : ℕ) → walkedOf false true s id ≡ Missing sum → (checkOf s ≡ 0) × (searchedAt 0 (findIn s id) ≡ Missing sum)
+  pub found-none : (sum : ℕ) → walkedOf false true s id ≡ Missing sum → (checkOf s ≡ 0) × (searchedAt 0 (findIn s id) ≡ Missing sum)
   unfolding sumOf foundUpTo findIn
-  walk-missing sum p = was-missing false true s id sum p
+  found-none sum p = was-missing false true s id sum p
 
-  pub walk-at : (sum offset count dim dtype index : ℕ) → walkedOf false true s id ≡ At sum offset count dim dtype index
+  pub found-at : (sum offset count dim dtype index : ℕ) → walkedOf false true s id ≡ At sum offset count dim dtype index
       → (checkOf s ≡ 0) × (searchedAt 0 (findIn s id) ≡ At sum offset count dim dtype index)
   unfolding sumOf foundUpTo findIn
-  walk-at sum offset count dim dtype index p = was-at false true s id sum offset count dim dtype index p
+  found-at sum offset count dim dtype index p = was-at false true s id sum offset count dim dtype index p

@@ -1,7 +1,7 @@
 -- `vec_read::read` meets its contract, by its ways out.
 -- Assumes nothing.
 use mathlib.Core.Path.{sym, _∙_}
-use Rattle.vec_read.specs.Vector.{get-bad, get-missing, get-bounds, get-short, get-read, walk-bad, walk-missing, walk-at}
+use Rattle.vec_read.specs.Vector.{get-bad, get-missing, get-bounds, get-short, get-read, found-bad, found-none, found-at}
 use borrow.Author.Needs.{needs}
 use Rattle.vec_read.proofs.read.Statement.{statement}
 use Rattle.vec_read.proofs.read.Tie as tie
@@ -11,17 +11,17 @@ read-vector-requires c κs =
     let f = c .before .before in
     let w = f .before .before in
     let s = w .before .before .before in
-    let k = walk-at _ _ _ _ _ _ _ _ (sym (w .walk .ensures) ∙ f .found2 .given .1) in
+    let k = found-at _ _ _ _ _ _ _ _ (sym (w .walk .ensures) ∙ f .found2 .given .1) in
     get-bounds (s .args .payload .now) (s .args .id) (s .args .buf .now) (k .0) _ _ _ _ _ _ _ (k .1)
 
 returns : tie.Need-returns
 returns c =
-    let b = walk-bad _ _ _ (sym (c .before .before .before .walk .ensures) ∙ c .before .found .given .1) in
+    let b = found-bad _ _ _ (sym (c .before .before .before .walk .ensures) ∙ c .before .found .given .1) in
     get-bad _ _ _ _ (b .0) (b .1)
 
 returns-2 : tie.Need-returns-2
 returns-2 c =
-    let k = walk-missing _ _ _ (sym (c .before .before .walk .ensures) ∙ c .enum-told .given .1) in
+    let k = found-none _ _ _ (sym (c .before .before .walk .ensures) ∙ c .enum-told .given .1) in
     get-missing _ _ _ (k .0) _ _ (k .1)
 
 returns-3 : tie.Need-returns-3
@@ -30,7 +30,7 @@ returns-3 c =
     let f = rv .before .before .before in
     let w = f .before .before in
     let s = w .before .before .before in
-    let k = walk-at _ _ _ _ _ _ _ _ (sym (w .walk .ensures) ∙ f .found2 .given .1) in
+    let k = found-at _ _ _ _ _ _ _ _ (sym (w .walk .ensures) ∙ f .found2 .given .1) in
     get-short (s .args .payload .now) (s .args .id) _ (k .0) _ _ _ _ _ _ _ (k .1) _ _
     (sym (rv .read-vector .ensures .0) ∙ c .before .w .given .1) (rv .read-vector .ensures .1)
 
@@ -40,7 +40,7 @@ returns-4 c =
     let f = rv .before .before .before in
     let w = f .before .before in
     let s = w .before .before .before in
-    let k = walk-at _ _ _ _ _ _ _ _ (sym (w .walk .ensures) ∙ f .found2 .given .1) in
+    let k = found-at _ _ _ _ _ _ _ _ (sym (w .walk .ensures) ∙ f .found2 .given .1) in
     get-read (s .args .payload .now) (s .args .id) _ (k .0) _ _ _ _ _ _ _ (k .1) _ _
     (sym (rv .read-vector .ensures .0) ∙ c .before .w2 .given .1) (rv .read-vector .ensures .1)
 

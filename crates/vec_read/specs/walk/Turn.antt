@@ -19,7 +19,7 @@ use Rattle.idmap.specs.Decode.{mapOf, idsOf}
 use Rattle.vecseg.specs.Payload.{Line, lineOf, columnsLength, blockCount, linesEnd, checkOf}
 use Rattle.vecseg.specs.LineLaws.{line-is, LinesAt, lines-first, lines-good, lines-on}
 use Rattle.vecseg.specs.BlockLaws.{block-number, BlocksAt, blocks-first, blocks-offset, blocks-bad, blocks-next, blocks-end, blocks-more}
-use Rattle.vecseg.specs.Find.{lineAt, idsAt, Place, findUpTo}
+use Rattle.vecseg.specs.Find.{lineAt, idsAt, findUpTo}
 use Rattle.vecseg.specs.FindLaws.{find-here, find-on}
 use Rattle.vec_read.specs.declared.block.Block.{Block}
 use Rattle.vec_read.specs.declared.block.Block.the-variants.{Sound, Refused as BlockRefused}

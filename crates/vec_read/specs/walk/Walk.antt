@@ -1,7 +1,7 @@
 -- What the walk over the blocks answers, by what it was asked for: the payload's checksum, the place of a vector id, both or neither.
 -- Assumes nothing.
 use Prim.Native.Nat.{ℕ}
-use mathlib.Core.Path.{_≡_, refl, sym, ap, _∙_}
+use mathlib.Core.Path.{_≡_, refl, sym, _∙_}
 use mathlib.Core.Bool.{Bool, true, false, cond}
 use mathlib.Core.Option.{Option, none, some}
 use mathlib.Core.List.{List}
@@ -103,7 +103,7 @@ module _ (summed looking : Bool) (s : List ℕ) (id : ℕ) where
           let same : e ≡ checkOf s = cc in
           (same, λ z. eqb-false (checkOf s) 0 q (sym same ∙ z))
 
-  pub was-sound : (w : Searched) → walkedOf summed looking s id ≡ w → ((e : ℕ) → w ≡ Refused e → ⊥)
+  was-sound : (w : Searched) → walkedOf summed looking s id ≡ w → ((e : ℕ) → w ≡ Refused e → ⊥)
       → (checkOf s ≡ 0) × (searchedAt (sumOf summed s) (foundUpTo looking (blockCount s) s id) ≡ w)
   unfolding walkedOf
   was-sound w p not = pick (eqb (checkOf s) 0) refl p
