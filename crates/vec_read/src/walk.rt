@@ -7,7 +7,7 @@ ghost use Rattle.octets.specs.numbers.Numbers.{indexOf};
 ghost use Rattle.answers.specs.limits.Limits.{maxVectors};
 ghost use Rattle.vec_read.specs.lines.Directory.{DirectoryGood};
 ghost use Rattle.vec_read.specs.walk.Walk.{summedOf, searchedOf, sumOf, lookedOf, walkedOf};
-ghost use Rattle.vec_read.specs.walk.Sum.{Joins};
+ghost use Rattle.vec_read.specs.walk.Sum.{SumTo, Holds};
 use crate::block::Block;
 use octets::numbers::Index;
 
@@ -45,28 +45,47 @@ pub enum Kept {
     Nowhere,
 }
 
-// The checksum of the part before the first block; 0 where none is asked for.
-fn sum_first(summed: bool, part: &[u8]) -> u32
-    ensures { λ r. ⌜ r ≡ sumOf summed (now (part .entry)) ⌝ }
-{
-    if summed {
-        return crc32c::checksum(part);
-    }
-    0
+// The checksum of all that stands before a place.
+pub struct Sum {
+    value: u32,
+    to: usize,
 }
 
-// The checksum taken on over a sound block, from at to next. What stands before end has the checksum that the block
-// holds there, so its bytes are not looked at again.
-fn sum_on(summed: bool, sum: u32, s: &[u8], at: usize, end: usize, next: usize) -> u32
-    requires { ⌜ Joins summed sum (now s) at end next ⌝ }
-    ensures { λ r. ⌜ r ≡ sumOf summed (take next (now (s .entry))) ⌝ }
+// From how many bytes on a block's checksum is joined. Shorter blocks are left to a later pass, which takes them in
+// with what stands around them, and is quicker than joining each.
+const JOINED: usize = 2048;
+
+// The checksum behind a sound block, of the one before it. What stands in the block from at to end has the checksum
+// that the block holds at end, so these bytes are not looked at again.
+fn sum_on(summed: bool, sum: Sum, s: &[u8], at: usize, end: usize) -> Sum
+    requires { ⌜ (SumTo summed (now s) (sum .value) (sum .to) at) × (Holds (now s) at end) ⌝ }
+    ensures { λ r. ⌜ SumTo summed (now (s .entry)) (r .value) (r .to) end ⌝ }
 {
     if !summed {
         return sum;
     }
+    if end - at < JOINED {
+        return sum;
+    }
+    let from = sum.to;
+    let before = crc32c::extend(sum.value, &s[from..at]);
     let known = octets::le::u32_at(s, end);
-    let joined = crc_join::extend_by(sum, &s[at..end], known);
-    crc32c::extend(joined, &s[end..next])
+    Sum {
+        value: crc_join::extend_by(before, &s[at..end], known),
+        to: end,
+    }
+}
+
+// The checksum of the whole; 0 where none is asked for.
+fn sum_all(summed: bool, sum: Sum, s: &[u8]) -> u32
+    requires { ⌜ SumTo summed (now s) (sum .value) (sum .to) (length (now s)) ⌝ }
+    ensures { λ r. ⌜ r ≡ sumOf summed (now (s .entry)) ⌝ }
+{
+    if !summed {
+        return 0;
+    }
+    let from = sum.to;
+    crc32c::extend(sum.value, &s[from..])
 }
 
 // The place that is kept behind a block, whose ids are at hand. Ids may repeat, and the last copy counts.
@@ -105,11 +124,10 @@ fn walk_blocks(s: &[u8], id: u64, summed: bool, looking: bool, scratch: &mut [u6
     ensures { λ r. ⌜ r ≡ walkedOf summed looking (now (s .entry)) id ⌝ }
 {
     let blocks = octets::le::u32_at(s, 0) as usize;
-    let start = octets::round_up(4 + 12 * blocks);
-    let mut sum = sum_first(summed, &s[..start]);
+    let mut sum = Sum { value: 0, to: 0 };
     let mut kept = Kept::Nowhere;
     let mut i: usize = 0;
-    let mut at = start;
+    let mut at = octets::round_up(4 + 12 * blocks);
     while i < blocks {
         let line = 4 + 12 * i;
         if octets::le::u32_at(s, line) as usize != at {
@@ -122,11 +140,9 @@ fn walk_blocks(s: &[u8], id: u64, summed: bool, looking: bool, scratch: &mut [u6
         match b {
             Block::Refused(number) => return Searched::Refused(number),
             Block::Sound(n) => {
-                let end = at + n;
-                let next = at + octets::round_up(n + 4);
-                sum = sum_on(summed, sum, s, at, end, next);
+                sum = sum_on(summed, sum, s, at, at + n);
                 kept = look(looking, scratch, id, at, count, dim, dtype, kept);
-                at = next;
+                at += octets::round_up(n + 4);
                 i += 1;
             }
         }
@@ -134,8 +150,9 @@ fn walk_blocks(s: &[u8], id: u64, summed: bool, looking: bool, scratch: &mut [u6
     if s.len() != at {
         return Searched::Refused(5);
     }
+    let all = sum_all(summed, sum, s);
     match kept {
-        Kept::Nowhere => Searched::Missing(sum),
+        Kept::Nowhere => Searched::Missing(all),
         Kept::At {
             offset,
             count,
@@ -143,7 +160,7 @@ fn walk_blocks(s: &[u8], id: u64, summed: bool, looking: bool, scratch: &mut [u6
             dtype,
             index,
         } => Searched::At {
-            sum,
+            sum: all,
             offset,
             count,
             dim,

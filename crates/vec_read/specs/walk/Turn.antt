@@ -8,7 +8,7 @@ use mathlib.Core.List.{List}
 use native.Mathlib.Numerals.{add-one}
 use native.Mathlib.Omega.{arith}
 use lib.ListN.{length, getD, take, drop}
-use lib.Seq.{drop-drop, take-all}
+use lib.Seq.{drop-drop}
 use Rattle.octets.specs.Round.{round64}
 use Rattle.octets.specs.RoundLaws.{round64-ge}
 use Rattle.octets.specs.Parts.{tail-all}
@@ -29,13 +29,13 @@ use Rattle.vec_read.specs.declared.walk.Kept.the-variants.{At as KeptAt,
 use Rattle.vec_read.specs.block.Block.{BlockSays, SoundTo, lineWith, line-with, was-sound, was-bad}
 use Rattle.vec_read.specs.lines.Directory.{DirectoryGood, start-inside, blocks-left}
 use Rattle.vec_read.specs.walk.Walk.{sumOf, foundUpTo, walkedOf, keptOf, lookedOf, kept-nowhere, kept-at, walked-bad, walked-sound}
-use Rattle.vec_read.specs.walk.Sum.{Joins}
+use Rattle.vec_read.specs.walk.Sum.{SumTo, Holds, sum-first, sum-kept}
 
--- where the walk stands: i blocks are passed, the next is to begin at `at`; sum and kept are of what stands before
-pub record WalkAt (s : List ℕ) (id : ℕ) (summed looking : Bool) (i at sum : ℕ) (kept : Kept) : Type 0 where
+-- where the walk stands: i blocks are passed, the next is to begin at `at`; the checksum and the place are of what stands before
+pub record WalkAt (s : List ℕ) (id : ℕ) (summed looking : Bool) (i at value to : ℕ) (kept : Kept) : Type 0 where
   pub blocks : BlocksAt s (blockCount s) (round64 (linesEnd s)) i at
   pub lines : LinesAt s (blockCount s) i
-  pub sum-is : sum ≡ sumOf summed (take at s)
+  pub sum : SumTo summed s value to at
   pub kept-is : kept ≡ keptOf (foundUpTo looking i s id)
 
 none-yet : (looking : Bool) (s : List ℕ) (id : ℕ) → Nowhere ≡ keptOf (foundUpTo looking 0 s id)
@@ -43,17 +43,17 @@ unfolding keptOf foundUpTo findUpTo
 none-yet true s id = refl
 none-yet false s id = refl
 
-pub walk-first : (s : List ℕ) → DirectoryGood s → (id : ℕ) (summed looking : Bool) (start sum : ℕ) → start ≡ round64 (linesEnd s) → sum ≡ sumOf summed (take start s)
-    → WalkAt s id summed looking 0 start sum Nowhere
-walk-first s g id summed looking start sum e p =
+pub walk-first : (s : List ℕ) → DirectoryGood s → (id : ℕ) (summed looking : Bool) (at : ℕ) → at ≡ round64 (linesEnd s) → WalkAt s id summed looking 0 at 0 0 Nowhere
+walk-first s g id summed looking at e =
     record {
       blocks = rw e (blocks-first s (blockCount s) (round64 (linesEnd s)) (start-inside s g));
       lines = lines-first s (blockCount s);
-      sum-is = p;
+      sum = sum-first summed s at;
       kept-is = none-yet looking s id;
     }
 
-module _ (s : List ℕ) (g : DirectoryGood s) (id : ℕ) (summed looking : Bool) (i at sum : ℕ) (kept : Kept) (st : WalkAt s id summed looking i at sum kept) where
+module _ (s : List ℕ) (g : DirectoryGood s) (id : ℕ) (summed looking : Bool) (i at value to : ℕ) (kept : Kept)
+    (st : WalkAt s id summed looking i at value to kept) where
   refused : (e : ℕ) → e ≡ checkOf s → (e ≡ 0 → ⊥) → Refused e ≡ walkedOf summed looking s id
   refused = walked-bad summed looking s id
 
@@ -116,14 +116,12 @@ module _ (s : List ℕ) (g : DirectoryGood s) (id : ℕ) (summed looking : Bool)
           pub turn-inside : at + round64 (n + 4) ≤ length s
           turn-inside = passed .inside
 
-          pub turn-joins : (next : ℕ) → next ≡ at + round64 (n + 4) → Joins summed sum s at (at + n) next
-          turn-joins next e =
+          pub turn-holds : Holds s at (at + n)
+          turn-holds =
               let k : at + n - at ≡ n = omega arith in
               record {
-                before = st .sum-is;
                 begins = omega arith;
-                held = omega (arith, round64-ge (n + 4));
-                inside = omega (arith, turn-inside);
+                room = omega (arith, turn-inside, round64-ge (n + 4));
                 known = ap (λ (x : List ℕ). leOf (take 4 x)) (sym (drop-drop n at s)) ∙ sound .checksum ∙ ap (λ (x : ℕ). crcOf (take x (drop at s))) (sym k);
               }
 
@@ -151,13 +149,13 @@ module _ (s : List ℕ) (g : DirectoryGood s) (id : ℕ) (summed looking : Bool)
               pick false none p w = w
               pick false (some k) p w = w
 
-          pub turn-next : (next sum′ : ℕ) (kept′ : Kept) → next ≡ at + round64 (n + 4) → sum′ ≡ sumOf summed (take next s)
-              → kept′ ≡ lookedOf looking (indexOf id (take count own)) at count dim dtype kept → WalkAt s id summed looking (i + 1) next sum′ kept′
-          turn-next next sum′ kept′ e p w =
+          pub turn-next : (k value′ to′ : ℕ) (kept′ : Kept) → k ≡ round64 (n + 4) → SumTo summed s value′ to′ (at + n)
+              → kept′ ≡ lookedOf looking (indexOf id (take count own)) at count dim dtype kept → WalkAt s id summed looking (i + 1) (at + k) value′ to′ kept′
+          turn-next k value′ to′ kept′ e p w =
               record {
                 blocks = rw e passed;
                 lines = lines-on s (blockCount s) i (st .lines) h (g .lines);
-                sum-is = p;
+                sum = sum-kept summed s value′ to′ (at + n) p (at + k) (omega (arith, round64-ge (n + 4)));
                 kept-is = rw add-one (w ∙ ap (λ (x : List ℕ). lookedOf looking (indexOf id x) at count dim dtype kept) own-ids ∙ looked);
               }
 
@@ -168,8 +166,8 @@ module _ (s : List ℕ) (g : DirectoryGood s) (id : ℕ) (summed looking : Bool)
     walk-more q = refused 5 (blocks-more s _ _ i at (st .blocks) h q ∙ blocks-left s g) (λ z. omega arith)
 
     module _ (q : length s ≡ at) where
-      all-summed : sum ≡ sumOf summed s
-      all-summed = st .sum-is ∙ ap (sumOf summed) (take-all at s (omega arith))
+      pub walk-sum : SumTo summed s value to (length s)
+      walk-sum = rw q (st .sum)
 
       all-looked : keptOf (foundUpTo looking (blockCount s) s id) ≡ kept
       all-looked =
@@ -180,9 +178,10 @@ module _ (s : List ℕ) (g : DirectoryGood s) (id : ℕ) (summed looking : Bool)
       ok : checkOf s ≡ 0
       ok = sym (blocks-end s _ _ i at (st .blocks) h q ∙ blocks-left s g)
 
-      pub walk-missing : kept ≡ Nowhere → Missing sum ≡ walkedOf summed looking s id
-      walk-missing e = walked-sound summed looking s id ok _ sum all-summed (kept-nowhere _ sum (all-looked ∙ e))
+      module _ (all : ℕ) (a : all ≡ sumOf summed s) where
+        pub walk-missing : kept ≡ Nowhere → Missing all ≡ walkedOf summed looking s id
+        walk-missing e = walked-sound summed looking s id ok _ all a (kept-nowhere _ all (all-looked ∙ e))
 
-      pub walk-found : (offset count dim dtype index : ℕ) → kept ≡ KeptAt offset count dim dtype index → At sum offset count dim dtype index ≡ walkedOf summed looking s id
-      walk-found offset count dim dtype index e =
-          walked-sound summed looking s id ok _ sum all-summed (kept-at _ sum offset count dim dtype index (all-looked ∙ e))
+        pub walk-found : (offset count dim dtype index : ℕ) → kept ≡ KeptAt offset count dim dtype index → At all offset count dim dtype index ≡ walkedOf summed looking s id
+        walk-found offset count dim dtype index e =
+            walked-sound summed looking s id ok _ all a (kept-at _ all offset count dim dtype index (all-looked ∙ e))
