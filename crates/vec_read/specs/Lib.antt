@@ -1,7 +1,6 @@
 -- A vector by its id out of a payload.
 pub mod Vector
 pub mod block
-pub mod check
-pub mod find
+pub mod lines
 pub mod values
 pub mod walk

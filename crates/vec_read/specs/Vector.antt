@@ -4,6 +4,7 @@
 use Prim.Native.Nat.{ℕ, _*_}
 use mathlib.Core.Path.{_≡_, refl, sym, ap, _∙_}
 use mathlib.Core.Option.{Option, none, some}
+use mathlib.Core.Bool.{true, false}
 use mathlib.Core.List.{List}
 use native.Mathlib.Omega.{arith}
 use lib.ListN.{length}
@@ -14,8 +15,8 @@ use Rattle.vecseg.specs.Payload.{checkOf, width, columnsLength}
 use Rattle.vecseg.specs.LineLaws.{width-most}
 use Rattle.vecseg.specs.Find.{Place, findIn, vectorOf}
 use Rattle.vecseg.specs.FindLaws.{found-good}
-use Rattle.vec_read.specs.find.Found.{foundOf}
-use Rattle.vec_read.specs.declared.find.Found.the-variants.{At, Missing as NotFound}
+use Rattle.vec_read.specs.walk.Walk.{searchedAt, sumOf, foundUpTo, walkedOf, was-bad, was-missing, was-at}
+use Rattle.vec_read.specs.declared.walk.Searched.the-variants.{At, Missing, Refused as NotSound}
 use Rattle.vec_read.specs.values.Vector.{placeWith, vector-with, Bounds}
 use Rattle.vecseg.specs.declared.Vector.the-variants.{Read, Refused}
 use Rattle.vecseg.specs.Vector.{readOf, placedBuffer, vectorBuffer, placedOf, vectorIn}
@@ -28,16 +29,17 @@ module _ (s : List ℕ) (id : ℕ) (buf : List ℕ) where
   get-bad e p nz = rw (← p, ne-eqb e 0 nz) (refl, refl)
 
   module _ (ok : checkOf s ≡ 0) where
-    none-found : (o : Option Place) → foundOf o ≡ NotFound → o ≡ none
-    unfolding foundOf
-    none-found none e = refl
-    none-found (some p) e = absurd (let z : _≡_ {A = ℕ} 0 1 = cc in omega arith)
+    none-found : (o : Option Place) (a sum : ℕ) → searchedAt a o ≡ Missing sum → o ≡ none
+    unfolding searchedAt
+    none-found none a sum e = refl
+    none-found (some p) a sum e = absurd (let z : _≡_ {A = ℕ} 0 1 = cc in omega arith)
 
-    pub get-missing : foundOf (findIn s id) ≡ NotFound → (Refused 8 ≡ vectorIn s id buf) × (buf ≡ vectorBuffer s id buf)
+    pub get-missing : (a sum : ℕ) → searchedAt a (findIn s id) ≡ Missing sum → (Refused 8 ≡ vectorIn s id buf) × (buf ≡ vectorBuffer s id buf)
     unfolding vectorIn vectorBuffer placedOf placedBuffer
-    get-missing e = rw (ok, none-found (findIn s id) e) (refl, refl)
+    get-missing a sum e = rw (ok, none-found (findIn s id) a sum e) (refl, refl)
 
-    module _ (offset count dim dtype index : ℕ) (e : foundOf (findIn s id) ≡ At offset count dim dtype index) where
+    -- the checksum plays no part
+    module _ (a sum offset count dim dtype index : ℕ) (e : searchedAt a (findIn s id) ≡ At sum offset count dim dtype index) where
       record Found′ : Type 0 where
         place : Place
         found : findIn s id ≡ some place
@@ -48,10 +50,10 @@ module _ (s : List ℕ) (id : ℕ) (buf : List ℕ) where
         index-is : place .index ≡ index
 
       found : Found′
-      unfolding foundOf
+      unfolding searchedAt
       found = pick (findIn s id) refl e
         where
-          pick : (o : Option Place) → findIn s id ≡ o → foundOf o ≡ At offset count dim dtype index → Found′
+          pick : (o : Option Place) → findIn s id ≡ o → searchedAt a o ≡ At sum offset count dim dtype index → Found′
           pick none p q = absurd (let z : _≡_ {A = ℕ} 0 1 = cc in omega arith)
           pick (some w) p q = record { place = w; found = p; offset-is = cc; count-is = cc; dim-is = cc; dtype-is = cc; index-is = cc }
 
@@ -92,3 +94,18 @@ module _ (s : List ℕ) (id : ℕ) (buf : List ℕ) where
           let a : writeAnswer 0 (vectorOf s (found .place)) buf ≡ Length n = rw same-vector at p in
           let r : Read (found .place .line .dim) (found .place .line .dtype) n ≡ Read dim dtype n = rw (found .dim-is, found .dtype-is) in
           (sym r ∙ sym (to-place .0 ∙ ap (readOf (found .place)) a), q ∙ ap (λ (v : List ℕ). writeBuffer 0 v buf) same-vector ∙ sym (to-place .1))
+
+-- ---- what the walk that looks for the id, and takes no checksum, says
+
+module _ (s : List ℕ) (id : ℕ) where
+  pub found-bad : (e : ℕ) → walkedOf false true s id ≡ NotSound e → (e ≡ checkOf s) × (e ≡ 0 → ⊥)
+  found-bad e p = was-bad false true s id e p
+
+  pub found-none : (sum : ℕ) → walkedOf false true s id ≡ Missing sum → (checkOf s ≡ 0) × (searchedAt 0 (findIn s id) ≡ Missing sum)
+  unfolding sumOf foundUpTo findIn
+  found-none sum p = was-missing false true s id sum p
+
+  pub found-at : (sum offset count dim dtype index : ℕ) → walkedOf false true s id ≡ At sum offset count dim dtype index
+      → (checkOf s ≡ 0) × (searchedAt 0 (findIn s id) ≡ At sum offset count dim dtype index)
+  unfolding sumOf foundUpTo findIn
+  found-at sum offset count dim dtype index p = was-at false true s id sum offset count dim dtype index p

@@ -1,2 +1,4 @@
--- What the walk over a payload answers.
+-- What the walk over the blocks answers, block by block.
 pub mod Walk
+pub mod Sum
+pub mod Turn

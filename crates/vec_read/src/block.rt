@@ -2,12 +2,13 @@
 ghost use mathlib.Core.Path.{_≡_};
 ghost use Prim.Native.Nat.{_+_, _*_, _≤_, _^_};
 ghost use lib.ListN.{length};
-ghost use Rattle.vecseg.specs.Payload.{filled, blockOf};
-ghost use Rattle.vec_read.specs.block.Block.{blockAnswer, lineWith};
+ghost use Rattle.vecseg.specs.Payload.{filled};
+ghost use Rattle.vec_read.specs.block.Block.{BlockSays, lineWith};
 ghost use Rattle.answers.specs.limits.Limits.{maxDim, maxVectors};
 use answers::Wrote;
 
-// What the check of a block answers: how many bytes it takes with its padding, or the number of a refusal.
+// What the check of a block answers: where its columns and its id map end, behind which its checksum stands, or the
+// number of a refusal.
 pub enum Block {
     Sound(usize),
     Refused(u32),
@@ -25,11 +26,11 @@ pub fn is_filled(s: &[u8], at: usize) -> bool
     octets::is_zero(&s[at..end])
 }
 
-// The block at the front of what is left of a payload. Its ids go to a list of our own; the check itself keeps none
-// of them.
+// The block at the front of what is left of a payload. Its ids are left in a list of our own, where a search finds
+// them.
 pub fn check_block(s: &[u8], count: usize, dim: usize, dtype: u8, scratch: &mut [u64]) -> Block
     requires { ⌜ (1 ≤ count) × ((count ≤ maxVectors) × ((count ≤ length (now scratch)) × (dim ≤ maxDim))) ⌝ }
-    ensures { λ r. ⌜ r ≡ blockAnswer (blockOf (lineWith count dim dtype) (now (s .entry))) ⌝ }
+    ensures { λ r. ⌜ BlockSays (lineWith count dim dtype) (now (s .entry)) (now (scratch .exit)) r ⌝ }
 {
     let columns = count * dim * crate::width::width_of(dtype as u64);
     if s.len() < columns {
@@ -49,7 +50,7 @@ pub fn check_block(s: &[u8], count: usize, dim: usize, dtype: u8, scratch: &mut 
             if !is_filled(s, end + 4) {
                 return Block::Refused(5);
             }
-            Block::Sound(octets::round_up(end + 4))
+            Block::Sound(end)
         }
     }
 }

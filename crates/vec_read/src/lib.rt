@@ -2,7 +2,6 @@
 // sound.
 pub mod block;
 pub mod check;
-pub mod find;
 pub mod lines;
 pub mod values;
 pub mod walk;
@@ -10,7 +9,7 @@ pub mod width;
 
 ghost use mathlib.Core.Path.{_≡_};
 ghost use Rattle.vecseg.specs.Vector.{vectorIn, vectorBuffer};
-use crate::find::Found;
+use crate::walk::Searched;
 use answers::Wrote;
 use vecseg::Vector;
 
@@ -19,15 +18,12 @@ pub fn read(payload: &[u8], id: u64, buf: &mut [u8]) -> Vector
     ensures answer { λ r. ⌜ r ≡ vectorIn (now (payload .entry)) id (now (buf .entry)) ⌝ }
     ensures buf { λ _. ⌜ now (buf .exit) ≡ vectorBuffer (now (payload .entry)) id (now (buf .entry)) ⌝ }
 {
-    let bad = crate::check::check(payload);
-    if bad != 0 {
-        return Vector::Refused(bad);
-    }
-    let found = crate::find::find(payload, id);
+    let found = crate::walk::walk(payload, id, false, true);
     match found {
-        Found::Missing => Vector::Refused(8),
-        Found::Refused(number) => Vector::Refused(number),
-        Found::At {
+        Searched::Refused(number) => Vector::Refused(number),
+        Searched::Missing(_) => Vector::Refused(8),
+        Searched::At {
+            sum: _,
             offset,
             count,
             dim,

@@ -1,8 +1,9 @@
-// The lines of a payload's block directory checked: count, dim and dtype of each block.
+// A payload's block directory checked: its lines, which have count, dim and dtype of each block, and the fill behind.
 ghost use mathlib.Core.Path.{_≡_};
 ghost use Prim.Native.Nat.{_+_, _*_, _≤_};
 ghost use lib.ListN.{length, drop};
 ghost use Rattle.vecseg.specs.Payload.{lineOf, lineBad, linesBad};
+ghost use Rattle.vec_read.specs.lines.Directory.{DirectoryRead};
 
 // One line of the directory: counts and dim 5, dtype 6.
 fn check_line(s: &[u8], at: usize) -> u32
@@ -30,7 +31,7 @@ fn check_line(s: &[u8], at: usize) -> u32
 }
 
 // The lines of the directory, one by one.
-pub fn check_lines(s: &[u8], blocks: usize) -> u32
+fn check_lines(s: &[u8], blocks: usize) -> u32
     requires { ⌜ 4 + 12 * blocks ≤ length (now s) ⌝ }
     ensures { λ r. ⌜ r ≡ linesBad blocks (drop 4 (now (s .entry))) ⌝ }
 {
@@ -41,6 +42,31 @@ pub fn check_lines(s: &[u8], blocks: usize) -> u32
             return bad;
         }
         i += 1;
+    }
+    0
+}
+
+// The directory: block count and room for its lines 5, the lines, the fill behind them 5.
+pub fn check_directory(s: &[u8]) -> u32
+    ensures { λ r. ⌜ DirectoryRead (now (s .entry)) r ⌝ }
+{
+    if s.len() < 4 {
+        return 5;
+    }
+    let blocks = octets::le::u32_at(s, 0) as usize;
+    if blocks > answers::limits::MAX_BLOCKS {
+        return 5;
+    }
+    let end = 4 + 12 * blocks;
+    if s.len() < end {
+        return 5;
+    }
+    let bad = check_lines(s, blocks);
+    if bad != 0 {
+        return bad;
+    }
+    if !crate::block::is_filled(s, end) {
+        return 5;
     }
     0
 }

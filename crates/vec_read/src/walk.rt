@@ -1,19 +1,25 @@
-// A payload checked, its checksum taken and an id looked for: three passes, one behind the other.
+// One walk over a VEC_SEG payload's blocks that checks them. On its way it joins the payload's checksum from those of
+// the blocks, and looks for a vector id among the ids that the check has just read, where it is asked to.
 ghost use mathlib.Core.Path.{_≡_};
 ghost use Prim.Native.Nat.{_≤_};
-ghost use lib.ListN.{length};
+ghost use lib.ListN.{length, take};
+ghost use Rattle.octets.specs.numbers.Numbers.{indexOf};
 ghost use Rattle.answers.specs.limits.Limits.{maxVectors};
-ghost use Rattle.vec_read.specs.walk.Walk.{summedOf, searchedOf};
-use crate::find::Found;
+ghost use Rattle.vec_read.specs.lines.Directory.{DirectoryGood};
+ghost use Rattle.vec_read.specs.walk.Walk.{summedOf, searchedOf, sumOf, lookedOf, walkedOf};
+ghost use Rattle.vec_read.specs.walk.Sum.{SumTo, Holds};
+use crate::block::Block;
+use octets::numbers::Index;
 
-// The checksum of a sound payload, or the number that refuses it.
+// What a check that keeps the payload's checksum answers.
 pub enum Summed {
     Sound(u32),
     Refused(u32),
 }
 
-// The checksum of a sound payload with where a vector stands in it, or that none has the id; or the number that
-// refuses the payload.
+// What a search that checks the payload on its way answers: where the vector stands (its block's offset, count, dim
+// and dtype, and which vector of the block it is) or that it is missing, each with the payload's checksum; or the
+// number that refuses the payload.
 pub enum Searched {
     At {
         sum: u32,
@@ -27,39 +33,82 @@ pub enum Searched {
     Refused(u32),
 }
 
-// The check with the checksum.
-pub fn check_summed(s: &[u8]) -> Summed
-    ensures { λ r. ⌜ r ≡ summedOf (now (s .entry)) ⌝ }
-{
-    let bad = crate::check::check(s);
-    if bad != 0 {
-        return Summed::Refused(bad);
-    }
-    Summed::Sound(crc32c::checksum(s))
+// The place that is kept on the way: of the last block so far that holds the id.
+pub enum Kept {
+    At {
+        offset: usize,
+        count: usize,
+        dim: usize,
+        dtype: u8,
+        index: usize,
+    },
+    Nowhere,
 }
 
-// The search with the check and the checksum.
-pub fn search(s: &[u8], id: u64, scratch: &mut [u64]) -> Searched
-    requires { ⌜ maxVectors ≤ length (now scratch) ⌝ }
-    ensures { λ r. ⌜ r ≡ searchedOf (now (s .entry)) id ⌝ }
+// The checksum of all that stands before a place.
+pub struct Sum {
+    value: u32,
+    to: usize,
+}
+
+// From how many bytes on a block's checksum is joined. Shorter blocks are left to a later pass, which takes them in
+// with what stands around them, and is quicker than joining each.
+const JOINED: usize = 2048;
+
+// The checksum behind a sound block, of the one before it. What stands in the block from at to end has the checksum
+// that the block holds at end, so these bytes are not looked at again.
+fn sum_on(summed: bool, sum: Sum, s: &[u8], at: usize, end: usize) -> Sum
+    requires { ⌜ (SumTo summed (now s) (sum .value) (sum .to) at) × (Holds (now s) at end) ⌝ }
+    ensures { λ r. ⌜ SumTo summed (now (s .entry)) (r .value) (r .to) end ⌝ }
 {
-    let bad = crate::check::check(s);
-    if bad != 0 {
-        return Searched::Refused(bad);
+    if !summed {
+        return sum;
     }
-    let sum = crc32c::checksum(s);
-    let found = crate::find::find_with(s, id, scratch);
-    match found {
-        Found::Missing => Searched::Missing(sum),
-        Found::Refused(number) => Searched::Refused(number),
-        Found::At {
-            offset,
-            count,
-            dim,
-            dtype,
-            index,
-        } => Searched::At {
-            sum,
+    if end - at < JOINED {
+        return sum;
+    }
+    let from = sum.to;
+    let before = crc32c::extend(sum.value, &s[from..at]);
+    let known = octets::le::u32_at(s, end);
+    Sum {
+        value: crc_join::extend_by(before, &s[at..end], known),
+        to: end,
+    }
+}
+
+// The checksum of the whole; 0 where none is asked for.
+fn sum_all(summed: bool, sum: Sum, s: &[u8]) -> u32
+    requires { ⌜ SumTo summed (now s) (sum .value) (sum .to) (length (now s)) ⌝ }
+    ensures { λ r. ⌜ r ≡ sumOf summed (now (s .entry)) ⌝ }
+{
+    if !summed {
+        return 0;
+    }
+    let from = sum.to;
+    crc32c::extend(sum.value, &s[from..])
+}
+
+// The place that is kept behind a block, whose ids are at hand. Ids may repeat, and the last copy counts.
+fn look(
+    looking: bool,
+    ids: &[u64],
+    id: u64,
+    offset: usize,
+    count: usize,
+    dim: usize,
+    dtype: u8,
+    kept: Kept,
+) -> Kept
+    requires { ⌜ count ≤ length (now ids) ⌝ }
+    ensures { λ r. ⌜ r ≡ lookedOf looking (indexOf id (take count (now (ids .entry)))) offset count dim dtype kept ⌝ }
+{
+    if !looking {
+        return kept;
+    }
+    let place = octets::numbers::index_of(ids, count, id);
+    match place {
+        Index::Nowhere => kept,
+        Index::Place(index) => Kept::At {
             offset,
             count,
             dim,
@@ -67,4 +116,92 @@ pub fn search(s: &[u8], id: u64, scratch: &mut [u64]) -> Searched
             index,
         },
     }
+}
+
+// The blocks of a payload whose directory is good; each is handed over as the part of the payload from its place.
+fn walk_blocks(s: &[u8], id: u64, summed: bool, looking: bool, scratch: &mut [u64]) -> Searched
+    requires { ⌜ (DirectoryGood (now s)) × (maxVectors ≤ length (now scratch)) ⌝ }
+    ensures { λ r. ⌜ r ≡ walkedOf summed looking (now (s .entry)) id ⌝ }
+{
+    let blocks = octets::le::u32_at(s, 0) as usize;
+    let mut sum = Sum { value: 0, to: 0 };
+    let mut kept = Kept::Nowhere;
+    let mut i: usize = 0;
+    let mut at = octets::round_up(4 + 12 * blocks);
+    while i < blocks {
+        let line = 4 + 12 * i;
+        if octets::le::u32_at(s, line) as usize != at {
+            return Searched::Refused(5);
+        }
+        let count = octets::le::u32_at(s, line + 4) as usize;
+        let dim = octets::le::u16_at(s, line + 8) as usize;
+        let dtype = s[line + 10];
+        let b = crate::block::check_block(&s[at..], count, dim, dtype, scratch);
+        match b {
+            Block::Refused(number) => return Searched::Refused(number),
+            Block::Sound(n) => {
+                sum = sum_on(summed, sum, s, at, at + n);
+                kept = look(looking, scratch, id, at, count, dim, dtype, kept);
+                at += octets::round_up(n + 4);
+                i += 1;
+            }
+        }
+    }
+    if s.len() != at {
+        return Searched::Refused(5);
+    }
+    let all = sum_all(summed, sum, s);
+    match kept {
+        Kept::Nowhere => Searched::Missing(all),
+        Kept::At {
+            offset,
+            count,
+            dim,
+            dtype,
+            index,
+        } => Searched::At {
+            sum: all,
+            offset,
+            count,
+            dim,
+            dtype,
+            index,
+        },
+    }
+}
+
+// The walk with a list of our own for the ids of a block.
+pub fn walk(s: &[u8], id: u64, summed: bool, looking: bool) -> Searched
+    ensures { λ r. ⌜ r ≡ walkedOf summed looking (now (s .entry)) id ⌝ }
+{
+    let bad = crate::lines::check_directory(s);
+    if bad != 0 {
+        return Searched::Refused(bad);
+    }
+    let mut scratch = [0u64; answers::limits::MAX_VECTORS];
+    walk_blocks(s, id, summed, looking, &mut scratch)
+}
+
+// The check that keeps the payload's checksum.
+pub fn check_summed(s: &[u8]) -> Summed
+    ensures { λ r. ⌜ r ≡ summedOf (now (s .entry)) ⌝ }
+{
+    let w = walk(s, 0, true, false);
+    match w {
+        Searched::Refused(number) => Summed::Refused(number),
+        Searched::Missing(sum) => Summed::Sound(sum),
+        Searched::At { sum, .. } => Summed::Sound(sum),
+    }
+}
+
+// The search, with the caller's list for the ids of a block.
+pub fn search(s: &[u8], id: u64, scratch: &mut [u64]) -> Searched
+    requires { ⌜ maxVectors ≤ length (now scratch) ⌝ }
+    ensures { λ r. ⌜ r ≡ searchedOf (now (s .entry)) id ⌝ }
+{
+    let bad = crate::lines::check_directory(s);
+    if bad != 0 {
+        return Searched::Refused(bad);
+    }
+    walk_blocks(s, id, true, true, scratch)
 }

@@ -3,6 +3,7 @@
 use Prim.Native.Nat.{_≤_, _+_, _*_}
 use mathlib.Core.Path.{sym, _∙_}
 use native.Mathlib.Omega.{arith}
+use mathlib.Core.List.{[]}
 use lib.Seq.{length-take-le}
 use lib.ListN.{length}
 use borrow.Author.Tests.{not-true, not-false}
@@ -29,12 +30,12 @@ mul-columns-2 c =
     )
 
 returns : tie.Need-returns
-returns c = check-columns _ _ _ _ _ (columns-are _ _ _ _ (c .before .width-of .ensures)) (omega arith)
+returns c = check-columns _ _ _ _ _ _ (columns-are _ _ _ _ (c .before .width-of .ensures)) (omega arith)
 
 returns-2 : tie.Need-returns-2
 returns-2 c =
     let d = c .before .before .before .before .before in
-    check-broken _ _ _ _ _ (columns-are _ _ _ _ (d .before .before .before .before .width-of .ensures))
+    check-broken _ _ _ _ _ _ (columns-are _ _ _ _ (d .before .before .before .before .width-of .ensures))
     (omega arith) _ (sym (d .decode .ensures .0) ∙ c .before .m .given .1)
 
 -- Where the map is read: it lies behind the columns, in the block.
@@ -47,14 +48,14 @@ module _ (m : tie.After-m2) where
 
   fits : s .args .count * s .args .dim * wo .width-of .result + m .m2 .given .0 .0 ≤ length (s .args .s .now)
   fits =
-      check-fits (s .args .s .now) (s .args .count) (s .args .dim) (s .args .dtype) _
+      check-fits (s .args .s .now) [] (s .args .count) (s .args .dim) (s .args .dtype) _
       (columns-are (s .args .count) (s .args .dim) (s .args .dtype) (wo .width-of .result) (wo .width-of .ensures)) (omega arith)
       (m .m2 .given .0 .0) (sym (m .before .before .before .before .decode .ensures .0) ∙ m .m2 .given .1)
 
 returns-3 : tie.Need-returns-3
 returns-3 c =
     let d = c .before .before .before .before .before .before in
-    check-end _ _ _ _ _ (columns-are _ _ _ _ (d .before .before .before .before .width-of .ensures)) (omega arith)
+    check-end _ _ _ _ _ _ (columns-are _ _ _ _ (d .before .before .before .before .width-of .ensures)) (omega arith)
     _ (sym (d .decode .ensures .0) ∙ c .before .before .m2 .given .1) (omega arith)
 
 u32-at-requires : tie.Need-u32-at-requires
@@ -68,7 +69,7 @@ returns-4 c =
     let ua = c .before .before .before in
     let m = ua .before .before .before in
     let d = m .before .before .before .before in
-    check-checksum _ _ _ _ _ (columns-are _ _ _ _ (d .before .before .before .before .width-of .ensures))
+    check-checksum _ _ _ _ _ _ (columns-are _ _ _ _ (d .before .before .before .before .width-of .ensures))
     (omega arith) _ (sym (d .decode .ensures .0) ∙ m .m2 .given .1) (omega arith)
     (λ e. c .if3 .taken (ua .u32-at .ensures ∙ e ∙ sym (c .before .checksum .ensures)))
 
@@ -78,20 +79,20 @@ returns-5 c =
     let ua = e3 .before .before .before in
     let m = ua .before .before .before in
     let d = m .before .before .before .before in
-    check-padding _ _ _ _ _ (columns-are _ _ _ _ (d .before .before .before .before .width-of .ensures))
+    check-padding _ _ _ _ _ _ (columns-are _ _ _ _ (d .before .before .before .before .width-of .ensures))
     (omega arith) _ (sym (d .decode .ensures .0) ∙ m .m2 .given .1) (omega arith)
     (sym (ua .u32-at .ensures) ∙ e3 .if3 .left ∙ e3 .before .checksum .ensures) (sym (c .before .is-filled .ensures) ∙ not-true _ (c .if4 .taken))
 
 returns-6 : tie.Need-returns-6
 returns-6 c =
-    let e3 = c .before .before .before in
+    let e3 = c .before .before in
     let ua = e3 .before .before .before in
     let m = ua .before .before .before in
     let d = m .before .before .before .before in
-    check-sound _ _ _ _ _ (columns-are _ _ _ _ (d .before .before .before .before .width-of .ensures))
+    check-sound _ _ _ _ _ _ (columns-are _ _ _ _ (d .before .before .before .before .width-of .ensures))
     (omega arith) _ (sym (d .decode .ensures .0) ∙ m .m2 .given .1) (omega arith)
     (sym (ua .u32-at .ensures) ∙ e3 .if3 .left ∙ e3 .before .checksum .ensures)
-    (sym (c .before .before .is-filled .ensures) ∙ not-false _ (c .before .if4 .left)) _ (c .round-up .ensures)
+    (sym (c .before .is-filled .ensures) ∙ not-false _ (c .if4 .left)) (d .decode .ensures .1)
 
 pub check-block-spec : {M : Type 1} → statement M
 check-block-spec =
@@ -101,4 +102,4 @@ check-block-spec =
     (search needs) (search needs) returns-2 (search needs) (λ c. omega (arith, fits (c .before)))
     (λ c. omega (arith, fits (c .before))) (search needs) returns-3 u32-at-requires slice-aggregate-checksum
     (search needs) (search needs) returns-4 (search needs) (search needs) (search needs) returns-5
-    (search needs) (search needs) (search needs) returns-6)
+    (search needs) returns-6)

@@ -1,2 +1,0 @@
--- What the check of the blocks answers, block by block.
-pub mod Turn

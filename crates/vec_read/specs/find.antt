@@ -1,2 +1,0 @@
--- What the search for a vector id answers.
-pub mod Found

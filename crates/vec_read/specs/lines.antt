@@ -1,0 +1,2 @@
+-- What the check of the block directory answers.
+pub mod Directory
