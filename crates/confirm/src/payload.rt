@@ -10,7 +10,11 @@ ghost use Rattle.manifest.specs.At.{Inside, payloadAt};
 // The bytes that a root begins with.
 const NAME: [u8; 4] = [0x52, 0x56, 0x4D, 0x30];
 
-// The root of a manifest with c entries at the front of a buffer. Its checksum is taken of the bytes before it.
+// The register of the power 8 * 4052: the product with it takes a checksum over the root's zeros.
+const ZEROS_POWER: u64 = 0x4362_E151;
+
+// The root of a manifest with c entries at the front of a buffer. Its checksum is taken of the bytes before it, and the
+// zeros among them are one product, not a pass.
 pub fn put_root(buf: &mut [u8], c: usize, offset: u64, id: u64)
     requires { ⌜ 4096 ≤ length (now buf) ⌝ }
     requires { ⌜ offset + 64 + round64 (payloadLength c) < 2 ^ 64 ⌝ }
@@ -31,8 +35,9 @@ pub fn put_root(buf: &mut [u8], c: usize, offset: u64, id: u64)
         manifest::fields::ROOT_ZEROS,
         manifest::fields::ROOT_CHECKSUM,
     );
-    let crc = crc32c::checksum(&buf[..manifest::fields::ROOT_CHECKSUM]);
-    octets::le::put(buf, manifest::fields::ROOT_CHECKSUM, 4, crc as u64);
+    let sum = crc32c::checksum(&buf[..manifest::fields::ROOT_ZEROS]) as u64;
+    let crc = crc_join::times(sum ^ 0xFFFF_FFFF, ZEROS_POWER) ^ 0xFFFF_FFFF;
+    octets::le::put(buf, manifest::fields::ROOT_CHECKSUM, 4, crc);
 }
 
 // The payload of a manifest at an offset, with an id, over the links at some offsets with their states; and its length.

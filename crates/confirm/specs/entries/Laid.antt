@@ -15,7 +15,6 @@ use Rattle.octets.specs.Parts.{back}
 use Rattle.octets.specs.Round.{round64}
 use Rattle.octets.specs.le.Le.{leBytes}
 use Rattle.octets.specs.le.Laws.{length-leBytes}
-use Rattle.crc32c.specs.Crc.{crcOf}
 use Rattle.manifest.specs.Sized.{entriesOf}
 use Rattle.manifest.specs.SizedLaws.{entriesOf-more}
 use Rattle.manifest.specs.Payload.{entrySize, recordEnd, payloadLength, rootBytes, root, entriesEnd}
@@ -94,7 +93,7 @@ entries-next buf₀ buf buf′ f os ss i st h t room p q =
 pub entries-last : (buf₀ buf f os ss : List ℕ) (i : ℕ) → EntriesPut buf₀ buf f os ss i → length os ≤ i → buf ≡ over buf₀ 8 (entriesAt f os ss)
 entries-last buf₀ buf f os ss i st h = rw (take-all i os h) at (st .laid)
 
--- ---- the root, field by field; its checksum is taken of what stands before it
+-- ---- the root's fields, one by one, and its zeros
 
 abbrev name : List ℕ
 name = 0x52 ∷ 0x56 ∷ 0x4D ∷ 0x30 ∷ []
@@ -125,16 +124,6 @@ module _ (buf : List ℕ) (c offset id : ℕ) (room : 4096 ≤ length buf) where
       p₈ ∙ over-then buf b₇ 0 x₇ (replicate (4092 - 40) 0) 40 q₇ (simp (length-append, length-leBytes)) (omega arith) in
       q₈ ∙ rw (el, ee) (ap (over buf 0) (in-line name (leBytes 2 1) (leBytes 2 c) (leBytes 8 offset) (leBytes 8 id) (leBytes 8 (entriesEnd c))
       (leBytes 8 (offset + 64 + round64 (payloadLength c))) (replicate (4092 - 40) 0)))
-
-  pub root-laid : (b₈ b₉ : List ℕ) (crc : ℕ) → b₈ ≡ over buf 0 (rootBytes c offset id) → crc ≡ crcOf (take 4092 b₈) → b₉ ≡ over b₈ 4092 (leBytes 4 crc)
-      → b₉ ≡ over buf 0 (root c offset id)
-  unfolding root
-  root-laid b₈ b₉ crc p e q =
-      let n = length-rootBytes c offset id in
-      let t : take 4092 (over buf 0 (rootBytes c offset id)) ≡ rootBytes c offset id =
-      ap (λ (k : ℕ). take k (over buf 0 (rootBytes c offset id))) (sym n) ∙ over-at buf 0 (rootBytes c offset id) (omega arith) in
-      let s : crc ≡ crcOf (rootBytes c offset id) = e ∙ ap crcOf (ap (take 4092) p ∙ t) in
-      q ∙ over-then buf b₈ 0 (rootBytes c offset id) (leBytes 4 crc) 4092 p n (omega arith) ∙ ap (λ (x : ℕ). over buf 0 (rootBytes c offset id ++ leBytes 4 x)) s
 
 -- ---- the payload: the record's head, entries, fill, and the root in a part of the buffer
 
