@@ -1,8 +1,8 @@
 -- The ways out of the tests on a header, each with its law.
 -- Assumes nothing.
-use mathlib.Core.Path.{_≡_, sym, _∙_}
+use mathlib.Core.Path.{_≡_, sym, ap, _∙_}
 use mathlib.Core.Bool.{Bool, true, false, and-true}
-use mathlib.Core.List.{List}
+use mathlib.Core.List.{List, _++_}
 use Prim.Native.Nat.{ℕ, _≤_, _<_}
 use native.Mathlib.Omega.{arith}
 use lib.Dec.{leb}
@@ -31,9 +31,14 @@ kind-extension t h k = rw (le-leb 0x01 t (omega arith), lt-leb t 0x0C h, le-leb 
 
 -- ---- the content hash, laid over zeros
 
-pub hash-laid : (payload hash : List ℕ) (sum : ℕ) → sum ≡ crcOf payload → hash ≡ over (replicate 16 0) 0 (leBytes 4 sum) → hash ≡ contentHash payload
-unfolding contentHash over leBytes
-hash-laid payload hash sum e p = p ∙ rw e
+pub hash-laid : (hash : List ℕ) (sum : ℕ) → hash ≡ over (replicate 16 0) 0 (leBytes 4 sum) → hash ≡ leBytes 4 sum ++ replicate 12 0
+unfolding over leBytes
+hash-laid hash sum p = p
+
+-- the hash that a payload's checksum makes is the payload's
+pub hash-of : (payload hash : List ℕ) (sum : ℕ) → sum ≡ crcOf payload → hash ≡ leBytes 4 sum ++ replicate 12 0 → hash ≡ contentHash payload
+unfolding contentHash
+hash-of payload hash sum e p = p ∙ ap (λ (n : ℕ). leBytes 4 n ++ replicate 12 0) e
 
 -- ---- a header's own bytes
 

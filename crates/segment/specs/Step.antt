@@ -125,13 +125,16 @@ module _ (f : List ℕ) (at : ℕ) (first : Bool) (prev : ℕ) where
 
 -- ---- whether a link is whole
 
+-- the payload, as the code takes it out of the file
+pub payload-part : (f : List ℕ) (at len : ℕ) → take (at + 64 + len - (at + 64)) (drop (at + 64) f) ≡ take len (drop (at + 64) f)
+payload-part f at len = let e : at + 64 + len - (at + 64) ≡ len = omega arith in ap (λ (n : ℕ). take n (drop (at + 64) f)) e
+
 pub whole-by : (f : List ℕ) (at len : ℕ) (r : Bool) (hash : List ℕ) → r ≡ sameBytes (take (at + 0x38 - (at + 0x28)) (drop (at + 0x28) f)) hash
-    → hash ≡ contentHash (take (at + 64 + len - (at + 64)) (drop (at + 64) f)) → r ≡ wholeAt f at len
+    → hash ≡ contentHash (take len (drop (at + 64) f)) → r ≡ wholeAt f at len
 unfolding wholeAt
 whole-by f at len r hash p q =
     let a : at + 0x38 - (at + 0x28) ≡ 16 = omega arith in
-    let b : at + 64 + len - (at + 64) ≡ len = omega arith in
-    p ∙ rw (q, a, b, drop-drop)
+    p ∙ rw (q, a, drop-drop)
 
 -- the test at a link's place is the test of the link
 pub whole-link : (f : List ℕ) (st : State) (at : ℕ) (l : Link) → linkAt st (drop at f) ≡ some l → whole l ≡ wholeAt f at (length (l .payload))

@@ -6,9 +6,12 @@ pub mod index;
 pub mod link;
 pub mod write;
 
+ghost use mathlib.Core.List.{_++_};
 ghost use mathlib.Core.Path.{_≡_};
 ghost use Prim.Native.Nat.{_+_, _≤_};
-ghost use lib.ListN.{length};
+ghost use lib.ListN.{length, take, drop, replicate};
+ghost use Rattle.octets.specs.le.Le.{leBytes};
+ghost use Rattle.crc32c.specs.Crc.{crcOf};
 ghost use Rattle.segment.specs.Header.{typeHeld, flagsHeld, contentHash};
 ghost use Rattle.segment.specs.Step.{wholeAt};
 
@@ -48,13 +51,33 @@ pub fn flags_held(flags: u16) -> bool
     flags & 0x03C8 == flags
 }
 
+// The content hash that a checksum makes.
+pub fn hash_by(sum: u32) -> [u8; 16]
+    ensures { λ r. ⌜ r ≡ leBytes 4 sum ++ replicate 12 0 ⌝ }
+{
+    let mut hash = [0u8; 16];
+    octets::le::put(&mut hash, 0, 4, sum as u64);
+    hash
+}
+
 // The content hash of a payload.
 pub fn content_hash(payload: &[u8]) -> [u8; 16]
     ensures { λ r. ⌜ r ≡ contentHash (now (payload .entry)) ⌝ }
 {
-    let mut hash = [0u8; 16];
-    octets::le::put(&mut hash, 0, 4, crc32c::checksum(payload) as u64);
-    hash
+    hash_by(crc32c::checksum(payload))
+}
+
+// Whether the link at a place is whole, where the checksum of its payload is known: a caller that has read the payload
+// already reads it no second time.
+pub fn is_whole_by(file: &[u8], at: usize, len: usize, sum: u32) -> bool
+    requires { ⌜ at + (64 + len) ≤ length (now file) ⌝ }
+    requires { ⌜ sum ≡ crcOf (take len (drop (at + 64) (now file))) ⌝ }
+    ensures { λ r. ⌜ r ≡ wholeAt (now (file .entry)) at len ⌝ }
+{
+    let hash = hash_by(sum);
+    let from = at + crate::fields::HASH;
+    let to = at + crate::fields::UNCOMPRESSED;
+    octets::same(&file[from..to], &hash)
 }
 
 // Whether the link at a place is whole: its header's hash is that of its payload.
@@ -64,8 +87,5 @@ pub fn is_whole(file: &[u8], at: usize, len: usize) -> bool
 {
     let body = at + 64;
     let end = body + len;
-    let hash = content_hash(&file[body..end]);
-    let from = at + crate::fields::HASH;
-    let to = at + crate::fields::UNCOMPRESSED;
-    octets::same(&file[from..to], &hash)
+    is_whole_by(file, at, len, crc32c::checksum(&file[body..end]))
 }

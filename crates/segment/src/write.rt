@@ -4,6 +4,7 @@ ghost use Prim.Native.Nat.{_+_, _≤_};
 ghost use lib.ListN.{length};
 ghost use Rattle.octets.specs.Over.{over};
 ghost use Rattle.octets.specs.Round.{round64};
+ghost use Rattle.crc32c.specs.Crc.{crcOf};
 ghost use Rattle.segment.specs.Written.{headerOf, segment};
 
 // The 64 bytes of a header, for a payload of len bytes with this content hash.
@@ -40,7 +41,35 @@ pub fn put_header(
     octets::copy(buf, &h);
 }
 
-// A segment at the front of a buffer that has room for it, and its size; the bytes behind it stay.
+// A segment at the front of a buffer that has room for it, and its size; the bytes behind it stay. The checksum of the
+// payload is known to the caller, which has read it already.
+pub fn put_segment_by(
+    buf: &mut [u8],
+    kind: u8,
+    flags: u16,
+    id: u64,
+    timestamp: u64,
+    payload: &[u8],
+    sum: u32,
+) -> usize
+    requires { ⌜ 64 + round64 (length (now payload)) ≤ length (now buf) ⌝ }
+    requires { ⌜ sum ≡ crcOf (now payload) ⌝ }
+    ensures answer { λ r. ⌜ r ≡ length (segment kind flags id timestamp (now (payload .entry))) ⌝ }
+    ensures buf { λ _. ⌜ now (buf .exit) ≡ over (now (buf .entry)) 0
+        (segment kind flags id timestamp (now (payload .entry))) ⌝ }
+{
+    let len = payload.len();
+    let body = 64;
+    let padding = body + len;
+    let end = body + octets::round_up(len);
+    let hash = crate::hash_by(sum);
+    put_header(&mut *buf, kind, flags, id, timestamp, len, hash);
+    octets::copy(&mut buf[body..], payload);
+    octets::clear(&mut buf[padding..end]);
+    end
+}
+
+// The same, where the checksum is not known yet.
 pub fn put_segment(
     buf: &mut [u8],
     kind: u8,
@@ -54,13 +83,13 @@ pub fn put_segment(
     ensures buf { λ _. ⌜ now (buf .exit) ≡ over (now (buf .entry)) 0
         (segment kind flags id timestamp (now (payload .entry))) ⌝ }
 {
-    let len = payload.len();
-    let body = 64;
-    let padding = body + len;
-    let end = body + octets::round_up(len);
-    let hash = crate::content_hash(payload);
-    put_header(&mut *buf, kind, flags, id, timestamp, len, hash);
-    octets::copy(&mut buf[body..], payload);
-    octets::clear(&mut buf[padding..end]);
-    end
+    put_segment_by(
+        buf,
+        kind,
+        flags,
+        id,
+        timestamp,
+        payload,
+        crc32c::checksum(payload),
+    )
 }
