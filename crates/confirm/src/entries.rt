@@ -59,12 +59,7 @@ pub fn put_entry(buf: &mut [u8], at: usize, file: &[u8], offset: usize, state: u
     );
     put_byte(buf, at + manifest::fields::ENTRY_KIND, kind);
     put_byte(buf, at + manifest::fields::STATE, state);
-    octets::le::put(
-        buf,
-        at + manifest::fields::FLAGS,
-        2,
-        flags as u64,
-    );
+    octets::le::put(buf, at + manifest::fields::FLAGS, 2, flags as u64);
     octets::le::put(buf, at + manifest::fields::ZEROS, 4, 0);
 }
 
