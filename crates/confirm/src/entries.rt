@@ -17,8 +17,8 @@ pub fn copy_at(buf: &mut [u8], at: usize, file: &[u8], from: usize, n: usize)
     octets::copy(&mut buf[at..], &file[from..to]);
 }
 
-// Two words of the file, at a place of a buffer. Each is read and written by one move, where a loop over the bytes moves
-// them one by one.
+// Two words of the file, at a place of a buffer. Each is read and written by one move, where a loop over the bytes
+// moves them one by one.
 fn copy_words(buf: &mut [u8], at: usize, file: &[u8], from: usize)
     requires { ⌜ (at + 16 ≤ length (now buf)) × (from + 16 ≤ length (now file)) ⌝ }
     ensures { λ _. ⌜ now (buf .exit) ≡ over (now (buf .entry)) at (take 16 (drop from (now (file .entry)))) ⌝ }

@@ -1,5 +1,5 @@
-// A manifest's payload written: its record of the entries, and the root behind it with its checksum. And the checksum of
-// a payload, for its segment's header.
+// A manifest's payload written: its record of the entries, and the root behind it with its checksum. And the checksum
+// of a payload, for its segment's header.
 ghost use mathlib.Core.Path.{_≡_};
 ghost use Prim.Native.Nat.{_+_, _≤_, _<_, _^_};
 ghost use lib.ListN.{length};
