@@ -28,12 +28,14 @@ pub fn put_manifest(
 {
     let mut payload = [0u8; manifest::fields::MAX_PAYLOAD];
     let n = confirm::payload::put_payload(&mut payload, &buf[..at], offsets, states, at as u64, id);
-    segment::write::put_segment(
+    let sum = confirm::payload::payload_sum(&payload[..n]);
+    segment::write::put_segment_by(
         &mut buf[at..],
         manifest::fields::KIND,
         0,
         id,
         timestamp,
         &payload[..n],
+        sum,
     );
 }

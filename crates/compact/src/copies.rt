@@ -73,7 +73,7 @@ pub fn put_file(
     copy_segments(buf, file, offsets);
     put_places(buf, body + manifest::fields::RECORD_HEAD, offsets);
     let end = body + len;
-    let hash = segment::content_hash(&buf[body..end]);
+    let hash = segment::hash_by(confirm::payload::payload_sum(&buf[body..end]));
     segment::write::put_header(
         &mut buf[at..],
         manifest::fields::KIND,

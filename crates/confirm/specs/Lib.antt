@@ -1,2 +1,3 @@
 pub mod entries
+pub mod payload
 pub mod states

@@ -17,6 +17,18 @@ pub fn copy_at(buf: &mut [u8], at: usize, file: &[u8], from: usize, n: usize)
     octets::copy(&mut buf[at..], &file[from..to]);
 }
 
+// Two words of the file, at a place of a buffer. Each is read and written by one move, where a loop over the bytes
+// moves them one by one.
+fn copy_words(buf: &mut [u8], at: usize, file: &[u8], from: usize)
+    requires { ⌜ (at + 16 ≤ length (now buf)) × (from + 16 ≤ length (now file)) ⌝ }
+    ensures { λ _. ⌜ now (buf .exit) ≡ over (now (buf .entry)) at (take 16 (drop from (now (file .entry)))) ⌝ }
+{
+    let low = octets::le::u64_at(file, from);
+    let high = octets::le::u64_at(file, from + 8);
+    octets::le::put(buf, at, 8, low);
+    octets::le::put(buf, at + 8, 8, high);
+}
+
 // One byte at a place.
 fn put_byte(buf: &mut [u8], at: usize, b: u8)
     requires { ⌜ at < length (now buf) ⌝ }
@@ -31,30 +43,23 @@ pub fn put_entry(buf: &mut [u8], at: usize, file: &[u8], offset: usize, state: u
     ensures { λ _. ⌜ now (buf .exit) ≡ over (now (buf .entry)) at (entryAt (now (file .entry)) offset state) ⌝ }
 {
     let kind = file[offset + segment::fields::KIND];
+    let flags = octets::le::u16_at(file, offset + segment::fields::FLAGS);
     octets::le::put(buf, at, 8, offset as u64);
-    copy_at(
+    copy_words(
         buf,
         at + manifest::fields::ID,
         file,
         offset + segment::fields::ID,
-        16,
     );
-    copy_at(
+    copy_words(
         buf,
         at + manifest::fields::HASH,
         file,
         offset + segment::fields::HASH,
-        16,
     );
     put_byte(buf, at + manifest::fields::ENTRY_KIND, kind);
     put_byte(buf, at + manifest::fields::STATE, state);
-    copy_at(
-        buf,
-        at + manifest::fields::FLAGS,
-        file,
-        offset + segment::fields::FLAGS,
-        2,
-    );
+    octets::le::put(buf, at + manifest::fields::FLAGS, 2, flags as u64);
     octets::le::put(buf, at + manifest::fields::ZEROS, 4, 0);
 }
 

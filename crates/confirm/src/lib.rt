@@ -1,6 +1,7 @@
 // Whether a link is a confirmed manifest. Its payload is written anew from the headers of the links before it, with
 // the states that it says, and compared. Cheap tests come first: a file with many links of type 0x05 costs a test of
-// the length for most of them.
+// the length for most of them. The content hash comes last: where the payload is the one that was written, the checksum
+// that its root holds is right, and the hash asks for no pass over the root.
 pub mod entries;
 pub mod payload;
 pub mod states;
@@ -55,11 +56,12 @@ fn confirm_with(
     if !states_held(file, offsets, &states[..n]) {
         return false;
     }
-    if !segment::is_whole(file, at, len) {
+    crate::payload::put_payload(buf, file, offsets, &states[..n], at as u64, id);
+    if !octets::same(&file[body..end], &buf[..len]) {
         return false;
     }
-    crate::payload::put_payload(buf, file, offsets, &states[..n], at as u64, id);
-    octets::same(&file[body..end], &buf[..len])
+    let sum = crate::payload::payload_sum(&file[body..end]);
+    segment::is_whole_by(file, at, len, sum)
 }
 
 // Whether the link at a place is confirmed, where the n links before it stand at the first n offsets, and its header

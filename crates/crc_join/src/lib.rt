@@ -45,7 +45,7 @@ const POWERS: [u64; 32] = [
 ];
 
 // The product of two registers, by the digits of the first from the lowest on.
-fn times(x: u64, k: u64) -> u64
+pub fn times(x: u64, k: u64) -> u64
     ensures { λ r. ⌜ r ≡ product x k ⌝ }
 {
     let mut left = x;

@@ -1,21 +1,20 @@
 -- What the steps of writing a manifest's payload leave in the buffer: a part of the file, an entry, the entries, the root, the payload.
 -- Assumes nothing.
 use Prim.Native.Nat.{ℕ, _+_, _-_, _*_, _≤_, _<_}
-use mathlib.Core.Path.{_≡_, refl, sym, ap, _∙_}
+use mathlib.Core.Path.{_≡_, refl, sym, ap, ap₂, _∙_}
 use mathlib.Core.List.{List, [], _∷_, _++_, append-assoc}
 use native.Mathlib.Nat.{zero-add}
 use native.Mathlib.Numerals.{add-one}
 use native.Mathlib.Omega.{arith}
 use lib.ListN.{length, take, drop, getD, set, replicate, length-append, length-drop}
-use lib.Seq.{length-take-le, take-all, getD-take}
+use lib.Seq.{length-take-le, take-all, take-add, drop-drop, getD-take}
 use borrow.Rule.Slice.PartMut.{putMid}
 use Rattle.octets.specs.Over.{over}
 use Rattle.octets.specs.OverLaws.{over-none, over-turn, over-then, over-at, length-over}
 use Rattle.octets.specs.Parts.{back}
 use Rattle.octets.specs.Round.{round64}
-use Rattle.octets.specs.le.Le.{leBytes}
-use Rattle.octets.specs.le.Laws.{length-leBytes}
-use Rattle.crc32c.specs.Crc.{crcOf}
+use Rattle.octets.specs.le.Le.{Bytes, leAt, leBytes}
+use Rattle.octets.specs.le.Laws.{length-leBytes, le-back}
 use Rattle.manifest.specs.Sized.{entriesOf}
 use Rattle.manifest.specs.SizedLaws.{entriesOf-more}
 use Rattle.manifest.specs.Payload.{entrySize, recordEnd, payloadLength, rootBytes, root, entriesEnd}
@@ -32,6 +31,17 @@ copied buf ys f at from n p h k =
     let l : length (take n (drop from f)) ≡ n = length-take-le n (drop from f) (omega (arith, length-drop from f)) in
     back buf at ys (take n (drop from f)) (rw e at p) (omega arith)
 
+-- two words of the file, read as numbers and written
+pub words-copied : (buf b₁ b₂ f : List ℕ) (at from low high : ℕ) → Bytes f → at + 16 ≤ length buf → from + 16 ≤ length f → low ≡ leAt 8 f from
+    → high ≡ leAt 8 f (from + 8) → b₁ ≡ over buf at (leBytes 8 low) → b₂ ≡ over b₁ (at + 8) (leBytes 8 high) → b₂ ≡ over buf at (take 16 (drop from f))
+words-copied buf b₁ b₂ f at from low high t h k el eh p q =
+    let first : leBytes 8 low ≡ take 8 (drop from f) = ap (leBytes 8) el ∙ le-back f 8 from t (omega arith) in
+    let second : leBytes 8 high ≡ take 8 (drop 8 (drop from f)) =
+    ap (leBytes 8) eh ∙ le-back f 8 (from + 8) t (omega arith) ∙ ap (take 8) (sym (drop-drop 8 from f)) in
+    q
+    ∙ over-then buf b₁ at (leBytes 8 low) (leBytes 8 high) 8 p (length-leBytes 8 low) (omega arith)
+    ∙ ap (over buf at) (ap₂ (λ (x y : List ℕ). x ++ y) first second ∙ sym (take-add 8 8 (drop from f)))
+
 pub stored : (buf : List ℕ) (at b : ℕ) → at < length buf → set buf at b ≡ over buf at (b ∷ [])
 stored buf at b h =
     let e : at + 0 ≡ at = omega arith in
@@ -39,11 +49,11 @@ stored buf at b h =
 
 -- ---- an entry, field by field
 
-pub entry-laid : (buf f b₁ b₂ b₃ b₄ b₅ b₆ b₇ : List ℕ) (at o state : ℕ) → at + 48 ≤ length buf → o + 64 ≤ length f → b₁ ≡ over buf at (leBytes 8 o)
+pub entry-laid : (buf f b₁ b₂ b₃ b₄ b₅ b₆ b₇ : List ℕ) (at o state held : ℕ) → Bytes f → held ≡ leAt 2 f (o + 0x06) → at + 48 ≤ length buf → o + 64 ≤ length f → b₁ ≡ over buf at (leBytes 8 o)
     → b₂ ≡ over b₁ (at + 8) (take 16 (drop (o + 0x08) f)) → b₃ ≡ over b₂ (at + 24) (take 16 (drop (o + 0x28) f)) → b₄ ≡ over b₃ (at + 40) (kindAt f o ∷ [])
-    → b₅ ≡ over b₄ (at + 41) (state ∷ []) → b₆ ≡ over b₅ (at + 42) (take 2 (drop (o + 0x06) f)) → b₇ ≡ over b₆ (at + 44) (leBytes 4 0) → b₇ ≡ over buf at (entryAt f o state)
+    → b₅ ≡ over b₄ (at + 41) (state ∷ []) → b₆ ≡ over b₅ (at + 42) (leBytes 2 held) → b₇ ≡ over b₆ (at + 44) (leBytes 4 0) → b₇ ≡ over buf at (entryAt f o state)
 unfolding entryAt
-entry-laid buf f b₁ b₂ b₃ b₄ b₅ b₆ b₇ at o state h k p₁ p₂ p₃ p₄ p₅ p₆ p₇ =
+entry-laid buf f b₁ b₂ b₃ b₄ b₅ b₆ b₇ at o state held t e h k p₁ p₂ p₃ p₄ p₅ p₆ p₇ =
     let ids : List ℕ = take 16 (drop (o + 0x08) f) in
     let hash : List ℕ = take 16 (drop (o + 0x28) f) in
     let flags : List ℕ = take 2 (drop (o + 0x06) f) in
@@ -54,7 +64,8 @@ entry-laid buf f b₁ b₂ b₃ b₄ b₅ b₆ b₇ at o state h k p₁ p₂ p�
     let q₃ = p₃ ∙ over-then buf b₂ at (leBytes 8 o ++ ids) hash 24 q₂ (simp (length-append, length-leBytes, n₂)) (omega arith) in
     let q₄ = p₄ ∙ over-then buf b₃ at ((leBytes 8 o ++ ids) ++ hash) (kindAt f o ∷ []) 40 q₃ (simp (length-append, length-leBytes, n₂, n₃)) (omega arith) in
     let q₅ = p₅ ∙ over-then buf b₄ at (((leBytes 8 o ++ ids) ++ hash) ++ (kindAt f o ∷ [])) (state ∷ []) 41 q₄ (simp (length-append, length-leBytes, n₂, n₃)) (omega arith) in
-    let q₆ = p₆ ∙ over-then buf b₅ at ((((leBytes 8 o ++ ids) ++ hash) ++ (kindAt f o ∷ [])) ++ (state ∷ [])) flags 42 q₅
+    let l₆ : leBytes 2 held ≡ flags = ap (leBytes 2) e ∙ le-back f 2 (o + 0x06) t (omega arith) in
+    let q₆ = p₆ ∙ ap (over b₅ (at + 42)) l₆ ∙ over-then buf b₅ at ((((leBytes 8 o ++ ids) ++ hash) ++ (kindAt f o ∷ [])) ++ (state ∷ [])) flags 42 q₅
     (simp (length-append, length-leBytes, n₂, n₃)) (omega arith) in
     let q₇ = p₇ ∙ over-then buf b₆ at (((((leBytes 8 o ++ ids) ++ hash) ++ (kindAt f o ∷ [])) ++ (state ∷ [])) ++ flags) (leBytes 4 0) 44 q₆
     (simp (length-append, length-leBytes, n₂, n₃, n₆)) (omega arith) in
@@ -94,7 +105,7 @@ entries-next buf₀ buf buf′ f os ss i st h t room p q =
 pub entries-last : (buf₀ buf f os ss : List ℕ) (i : ℕ) → EntriesPut buf₀ buf f os ss i → length os ≤ i → buf ≡ over buf₀ 8 (entriesAt f os ss)
 entries-last buf₀ buf f os ss i st h = rw (take-all i os h) at (st .laid)
 
--- ---- the root, field by field; its checksum is taken of what stands before it
+-- ---- the root's fields, one by one, and its zeros
 
 abbrev name : List ℕ
 name = 0x52 ∷ 0x56 ∷ 0x4D ∷ 0x30 ∷ []
@@ -125,16 +136,6 @@ module _ (buf : List ℕ) (c offset id : ℕ) (room : 4096 ≤ length buf) where
       p₈ ∙ over-then buf b₇ 0 x₇ (replicate (4092 - 40) 0) 40 q₇ (simp (length-append, length-leBytes)) (omega arith) in
       q₈ ∙ rw (el, ee) (ap (over buf 0) (in-line name (leBytes 2 1) (leBytes 2 c) (leBytes 8 offset) (leBytes 8 id) (leBytes 8 (entriesEnd c))
       (leBytes 8 (offset + 64 + round64 (payloadLength c))) (replicate (4092 - 40) 0)))
-
-  pub root-laid : (b₈ b₉ : List ℕ) (crc : ℕ) → b₈ ≡ over buf 0 (rootBytes c offset id) → crc ≡ crcOf (take 4092 b₈) → b₉ ≡ over b₈ 4092 (leBytes 4 crc)
-      → b₉ ≡ over buf 0 (root c offset id)
-  unfolding root
-  root-laid b₈ b₉ crc p e q =
-      let n = length-rootBytes c offset id in
-      let t : take 4092 (over buf 0 (rootBytes c offset id)) ≡ rootBytes c offset id =
-      ap (λ (k : ℕ). take k (over buf 0 (rootBytes c offset id))) (sym n) ∙ over-at buf 0 (rootBytes c offset id) (omega arith) in
-      let s : crc ≡ crcOf (rootBytes c offset id) = e ∙ ap crcOf (ap (take 4092) p ∙ t) in
-      q ∙ over-then buf b₈ 0 (rootBytes c offset id) (leBytes 4 crc) 4092 p n (omega arith) ∙ ap (λ (x : ℕ). over buf 0 (rootBytes c offset id ++ leBytes 4 x)) s
 
 -- ---- the payload: the record's head, entries, fill, and the root in a part of the buffer
 

@@ -2,7 +2,7 @@
 -- Assumes nothing.
 use Prim.Native.Nat.{ℕ, suc, _+_, _-_, _*_, _≤_, _<_}
 use mathlib.Core.Path.{_≡_, refl, sym, ap, _∙_}
-use mathlib.Core.Bool.{Bool, true, false, _&&_, and-false}
+use mathlib.Core.Bool.{Bool, true, false, _&&_, and-false, and-true}
 use mathlib.Core.List.{List}
 use native.Mathlib.Numerals.{add-one}
 use native.Mathlib.Omega.{arith}
@@ -15,14 +15,16 @@ use Rattle.octets.specs.OverLaws.{over-none, over-front}
 use Rattle.octets.specs.Parts.{laid-front}
 use Rattle.octets.specs.Round.{round64}
 use Rattle.octets.specs.Zero.{sameBytes}
-use Rattle.octets.specs.ZeroLaws.{same-length}
+use Rattle.octets.specs.ZeroLaws.{same-equal, same-length}
 use Rattle.answers.specs.limits.Limits.{maxEntries}
+use Rattle.crc32c.specs.Crc.{crcOf}
 use Rattle.segment.specs.Step.{wholeAt}
 use Rattle.manifest.specs.Sized.{recordBy, statesBy}
 use Rattle.manifest.specs.SizedLaws.{length-statesBy, statesBy-more}
 use Rattle.manifest.specs.Payload.{manifestKind, entrySize, statesIn, payloadLength, entriesEnd}
 use Rattle.manifest.specs.At.{Inside, payloadAt, length-payloadAt, record-ge}
-use Rattle.confirm.specs.states.At.{stateOf, statesHeldAt, payloadIn, statesReadAt, verdict, confirmedAt}
+use Rattle.confirm.specs.payload.Sum.{Rooted, payload-rooted}
+use Rattle.confirm.specs.states.At.{stateOf, statesHeldAt, payloadIn, statesReadAt, confirmedAt}
 use Rattle.segment.specs.Header.{kindAt}
 
 -- ---- the states, read off a payload
@@ -86,12 +88,6 @@ module _ (f os ss : List ℕ) (same : length ss ≡ length os) where
 
 -- ---- the ways out
 
--- a link that is not whole is not confirmed, whatever else holds of it
-none-whole : (kind room held same : Bool) → (((kind && room) && false) && held) && same ≡ false
-none-whole true true held same = refl
-none-whole true false held same = refl
-none-whole false room held same = refl
-
 module _ (f os : List ℕ) (at len id : ℕ) where
   pub other-kind : (kind : ℕ) → (kind ≡ 5 → ⊥) → false ≡ confirmedAt f os at len kind id
   unfolding confirmedAt
@@ -120,20 +116,16 @@ module _ (f os : List ℕ) (at len id : ℕ) where
   unfolding confirmedAt
   not-held h = rw (h, and-false)
 
-  pub not-whole : wholeAt f at len ≡ false → false ≡ confirmedAt f os at len 5 id
+  -- the payload is not the one that is written anew
+  pub other-payload : sameBytes (payloadIn f at len) (payloadAt f os (statesReadAt f os at len) at id) ≡ false → false ≡ confirmedAt f os at len 5 id
   unfolding confirmedAt
-  not-whole h =
-      let held = statesHeldAt f os (statesReadAt f os at len) in
-      let wanted = payloadAt f os (statesReadAt f os at len) at id in
-      sym
-      (ap (λ (whole : Bool). verdict 5 (length os) whole held (payloadIn f at len) wanted) h
-      ∙ none-whole (eqb 5 manifestKind) (leb (length os) maxEntries) held (sameBytes (payloadIn f at len) wanted))
+  other-payload h = rw (h, and-false)
 
-  -- the payload is compared with the one written anew
-  pub by-payload : (r : Bool) → length os ≤ 1024 → statesHeldAt f os (statesReadAt f os at len) ≡ true → wholeAt f at len ≡ true
-      → r ≡ sameBytes (payloadIn f at len) (payloadAt f os (statesReadAt f os at len) at id) → r ≡ confirmedAt f os at len 5 id
+  -- it is, and the hash is left
+  pub by-hash : (r : Bool) → length os ≤ 1024 → statesHeldAt f os (statesReadAt f os at len) ≡ true
+      → sameBytes (payloadIn f at len) (payloadAt f os (statesReadAt f os at len) at id) ≡ true → r ≡ wholeAt f at len → r ≡ confirmedAt f os at len 5 id
   unfolding confirmedAt
-  by-payload r n h w e = e ∙ rw (le-leb (length os) 1024 n, h, w)
+  by-hash r n h e w = w ∙ rw (le-leb (length os) 1024 n, h, e) (sym (and-true (wholeAt f at len && true) ∙ and-true (wholeAt f at len)))
 
 -- the states that were read stand at the front of their array
 pub states-front : (s₀ s payload : List ℕ) (n : ℕ) → s ≡ over s₀ 0 (statesIn n (drop 8 payload)) → take n s ≡ statesIn n (drop 8 payload)
@@ -174,3 +166,11 @@ module _ (f os : List ℕ) (at len : ℕ) where
       q
       ∙ ap (λ (x : List ℕ). sameBytes x (take len b)) (part-is f at len)
       ∙ ap (sameBytes (payloadIn f at len)) (payload-front buf b f os ss at len id t e p ∙ ap (λ (x : List ℕ). payloadAt f os x at id) s)
+
+  -- it ends with a root where it is the one that is written anew, and the hash is of its checksum
+  pub part-rooted : (id : ℕ) → sameBytes (payloadIn f at len) (payloadAt f os (statesReadAt f os at len) at id) ≡ true
+      → Rooted (take (at + 64 + len - (at + 64)) (drop (at + 64) f))
+  part-rooted id e = payload-rooted _ f os (statesReadAt f os at len) at id (part-is f at len ∙ same-equal _ _ e)
+
+  pub part-sum : (sum : ℕ) → sum ≡ crcOf (take (at + 64 + len - (at + 64)) (drop (at + 64) f)) → sum ≡ crcOf (payloadIn f at len)
+  part-sum sum e = e ∙ ap crcOf (part-is f at len)

@@ -14,10 +14,12 @@ use Rattle.octets.specs.Round.{round64}
 use Rattle.octets.specs.RoundLaws.{round64-ge}
 use Rattle.octets.specs.ZeroLaws.{zeros-front}
 use Rattle.segment.specs.Header.{contentHash}
+use Rattle.segment.specs.HeaderLaws.{hash-of}
 use Rattle.segment.specs.Written.{segment}
 use Rattle.manifest.specs.Payload.{payloadLength}
 use Rattle.manifest.specs.At.{payloadAt}
 use Rattle.manifest.specs.PayloadLaws.{payload-most}
+use Rattle.confirm.specs.payload.Sum.{payload-rooted}
 use Rattle.compact.specs.copies.Copies.{copiesAt, placesAt, placed, fileAt}
 use Rattle.compact.specs.copies.CopyLaws.{places-length}
 use Rattle.compact.specs.copies.PlaceLaws.{standing-inside}
@@ -109,6 +111,12 @@ module _ (q : tie.After-put-places) where
       places-put (f e) (os e) (s (t e) .pre .0 .1) (ss e) (at e) (s (t e) .args .id) (b e) (s (t e) .pre .1 .0 .0) (room e) _ _ _ refl (copied k)
       (q .put-places .ensures ∙ ap (λ (ps : List ℕ). placed (at e + 64 + 8) ps (k .copy-segments .last .0)) (k .copy-segments .ensures .1))
 
+  -- the payload as it is read back, for its hash
+  whole : take (at e + 64 + e .put-payload .result - (at e + 64)) (drop (at e + 64) (q .put-places .last .0))
+      ≡ payloadAt (copiesAt (f e) (os e)) (placesAt (f e) 0 (os e)) (ss e) (at e) (s (t e) .args .id)
+  whole =
+      payload-back (f e) (os e) (s (t e) .pre .0 .1) (ss e) (at e) (s (t e) .args .id) (b e) (s (t e) .pre .1 .0 .0) (room e) _ put _ (e .put-payload .ensures .0)
+
 copy-segments-requires : tie.Need-copy-segments-requires
 copy-segments-requires c κs =
     let p = c .before .before .before .before in
@@ -127,22 +135,25 @@ add-end c =
     let e = e (c .before .before) in
     omega (arith, e .put-payload .ensures .0, fits (t e), s (t e) .pre .1)
 
-part-content-hash-end : tie.Need-part-content-hash-end
-part-content-hash-end c =
+part-payload-sum-end : tie.Need-part-payload-sum-end
+part-payload-sum-end c =
     let q = c .before .before .before in
     omega (arith, e q .put-payload .ensures .0, room (e q), same-length (k q), q .put-places .kept .0)
+
+payload-sum-requires : tie.Need-payload-sum-requires
+payload-sum-requires c κs = payload-rooted _ _ _ _ _ _ (whole (c .before .before .before .before))
 
 returns : tie.Need-returns
 unfolding fileAt
 returns c =
     let h = c .before .before in
     let x = h .before .before in
-    let q = x .before .before .before .before .before in
+    let y = x .before in
+    let q = y .before .before .before .before .before in
     let e = e q in
     let r = s (t e) in
-    let whole = payload-back (f e) (os e) (r .pre .0 .1) (ss e) (at e) (r .args .id) (b e) (r .pre .1 .0 .0) (room e) _ (put q) _ (e .put-payload .ensures .0) in
     file-put (f e) (os e) (r .pre .0 .1) (ss e) (at e) (r .args .id) (b e) (r .pre .1 .0 .0) (room e) _ (put q) _ _ _ _ (e .put-payload .ensures .0)
-    (x .content-hash .ensures ∙ ap contentHash whole) (h .put-header .ensures)
+    (hash-of _ _ _ (y .payload-sum .ensures) (x .hash-by .ensures) ∙ ap contentHash (whole q)) (h .put-header .ensures)
     ∙ ap (λ (zs : List ℕ). over (b e) 0 (copiesAt (f e) (os e)
     ++ segment 5 0 (r .args .id) (r .args .timestamp) (payloadAt (copiesAt (f e) (os e)) (placesAt (f e) 0 (os e)) zs (at e) (r .args .id))))
     (zeros-front (n (t e)) 1024 (r .pre .0 .0))
@@ -152,5 +163,5 @@ put-file-spec =
     tie.close
     (tie.spec
     (search needs) (search needs) (search needs) (search needs) (search needs) slice-aggregate-put-payload put-payload-requires
-    copy-segments-requires (search needs) put-places-requires add-end (search needs) (search needs) part-content-hash-end
-    (search needs) (search needs) (search needs) (search needs) (search needs) (search needs) (search needs) returns)
+    copy-segments-requires (search needs) put-places-requires add-end (search needs) (search needs) part-payload-sum-end
+    payload-sum-requires (search needs) (search needs) (search needs) (search needs) (search needs) (search needs) (search needs) returns)

@@ -1,14 +1,16 @@
--- `confirm::payload::put_root` meets its contract: the fields, zeros, and the checksum of both.
+-- `confirm::payload::put_root` meets its contract: the fields, zeros, and the checksum of both, by a pass over the fields.
 -- Assumes nothing.
 use Prim.Native.Nat.{ℕ, _+_, _≤_}
 use mathlib.Core.Path.{_≡_, sym, ap, _∙_}
 use native.Mathlib.Omega.{arith}
+use lib.Bits.{bitXor}
 use lib.ListN.{length}
 use lib.Seq.{length-take-le}
 use Rattle.octets.specs.Round.{round64}
 use Rattle.manifest.specs.Sized.{recordBy}
 use Rattle.manifest.specs.Payload.{payloadLength}
-use Rattle.confirm.specs.entries.Laid.{fields-laid, root-laid}
+use Rattle.confirm.specs.entries.Laid.{fields-laid}
+use Rattle.confirm.specs.payload.Sum.{root-laid}
 use borrow.Author.Needs.{needs}
 use Rattle.confirm.proofs.payload.put_root.Statement.{statement}
 use Rattle.confirm.proofs.payload.put_root.Tie as tie
@@ -81,31 +83,33 @@ slice-reshare-prefix-checksum c = omega (arith, room (c .before .before))
 slice-aggregate-checksum : tie.Need-slice-aggregate-checksum
 slice-aggregate-checksum c =
     let cp = c .before .before .before in
-    sym (length-take-le 4092 (cp .clear-part .last .0) (omega (arith, room cp)))
+    sym (length-take-le 40 (cp .clear-part .last .0) (omega (arith, room cp)))
 
 put-requires-7 : tie.Need-put-requires-7
-put-requires-7 c κs = omega (arith, room (c .before .before .before .before .before))
+put-requires-7 c κs = omega (arith, room (c .before .before .before .before .before .before))
 
 same-length : tie.Need-same-length
 same-length c =
-    let cp = c .before .before .before .before .before .before .before .before in
+    let cs = c .before .before .before .before .before in
+    let cp = cs .before .before .before .before in
     c .before .before .put7 .kept .0 ∙ cp .clear-part .kept .0 ∙ kept (cp .before .before .before .before)
 
 returns : tie.Need-returns
 unfolding payloadLength recordBy
 returns c =
-    let cs = c .before .before .before .before in
+    let cs = c .before .before .before .before .before in
     let cp = cs .before .before .before .before in
     let p6 = cp .before .before .before .before in
     let ru2 = cy p6 .before .before .before in
     let s = ru2 .before .before .before in
     let offset = s .args .offset in
-    root-laid (s .args .buf .now) (s .args .c) offset (s .args .id) (s .pre .0) _ _ _
+    root-laid (s .args .c) offset (s .args .id) (s .args .buf .now) _ _ (cs .checksum .result) _ (s .pre .0)
     (fields-laid (s .args .buf .now) (s .args .c) offset (s .args .id) (s .pre .0) _ _ _ _ _ _ _ _ _ _ (omega arith)
     (ap (λ (n : ℕ). offset + 64 + n) (ru2 .round-up2 .ensures ∙ ap (λ (n : ℕ). round64 (n + 4096)) (ru2 .before .round-up .ensures)))
     (cy p6 .copy .ensures) (p1 p6 .put .ensures) (p2 p6 .put2 .ensures) (p3 p6 .put3 .ensures) (p4 p6 .put4 .ensures) (p5 p6 .put5 .ensures)
     (p6 .put6 .ensures) (cp .clear-part .ensures))
-    (cs .checksum .ensures) (c .before .before .put7 .ensures)
+    (omega arith) (cs .checksum .ensures)
+    (ap (λ (x : ℕ). bitXor x 0xFFFF_FFFF) (c .before .before .before .before .times .ensures)) (c .before .before .put7 .ensures)
 
 pub put-root-spec : {M : Type 1} → statement M
 put-root-spec =
@@ -114,4 +118,4 @@ put-root-spec =
     mul-long add-long round-up-requires add-round-up round-up-requires-2 (search needs) add-end-2 (search needs)
     (search needs) (search needs) (search needs) (search needs) (search needs) (search needs) (search needs)
     clear-part-requires slice-reshare-prefix-checksum slice-aggregate-checksum (search needs) (search needs)
-    put-requires-7 same-length returns)
+    (search needs) put-requires-7 same-length returns)
