@@ -178,6 +178,10 @@ first = refl
 pub powers-at : (i : ℕ) → i < 32 → getD powers i 0 ≡ power (8 * 2 ^ i)
 powers-at i h = ap (λ (l : List ℕ). getD l i 0) (sym powers-hold) ∙ squares-at 8 32 i 0x80_0000 h first
 
+-- the power of so many bytes, and of 2 ^ i more
+pub power-more : (x m i : ℕ) → i < 32 → x ≡ power (8 * m) → product x (getD powers i 0) ≡ power (8 * (m + 2 ^ i))
+power-more x m i h e = ap₂ (λ (a b : ℕ). product a b) e (powers-at i h) ∙ power-add (8 * m) (8 * 2 ^ i) ∙ ap power (omega arith)
+
 half-up : (m i : ℕ) → m / 2 * 2 ^ (i + 1) ≡ m / 2 * 2 * 2 ^ i
 half-up m i = ap (λ (w : ℕ). m / 2 * 2 ^ w) (add-one i) ∙ ap (λ (w : ℕ). m / 2 * w) (sym (two-pow i)) ∙ sym (mul-assoc (m / 2) 2 (2 ^ i))
 

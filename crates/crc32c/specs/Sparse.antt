@@ -12,7 +12,7 @@ use lib.ListN.{getD}
 use Rattle.crc32c.specs.Crc.{poly, bit, bits}
 use Rattle.crc32c.specs.Xor.{xor-pairs}
 use Rattle.crc32c.specs.Linear.{bits-xor, bits-zero, bits-add, bits-shifted}
-use Rattle.crc32c.specs.Product.{product, digits, power, powers, powers-at, power-add}
+use Rattle.crc32c.specs.Product.{product, digits, power, powers, power-more}
 
 -- the sum of f over a list
 unfoldable pub sum : (ℕ → ℕ) → List ℕ → ℕ
@@ -129,8 +129,8 @@ by-digits : (l : List ℕ) → Places l → byDigits l ≡ power (8 * total l)
 unfolding byDigits Places total
 by-digits [] h = power-none
 by-digits (i ∷ l) h =
-    let n : 8 * total l + 8 * 2 ^ i ≡ 8 * (2 ^ i + total l) = omega arith in
-    ap₂ (λ (x y : ℕ). product x y) (by-digits l (h .1)) (powers-at i (h .0)) ∙ power-add (8 * total l) (8 * 2 ^ i) ∙ ap power n
+    let n : total l + 2 ^ i ≡ 2 ^ i + total l = omega arith in
+    power-more (byDigits l) (total l) i (h .0) (by-digits l (h .1)) ∙ ap (λ (m : ℕ). power (8 * m)) n
 
 abbrev pub near : List ℕ
 near = 299 ∷ 142 ∷ 134 ∷ 62 ∷ 21 ∷ []

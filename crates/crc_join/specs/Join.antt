@@ -11,7 +11,7 @@ use Rattle.crc32c.specs.Crc.{poly, bits, byteStep, crcFrom, crcOf}
 use Rattle.crc32c.specs.Xor.{xor-assoc}
 use Rattle.crc32c.specs.Linear.{bits-none, bits-xor, bits-add}
 use Rattle.crc32c.specs.Extend.{extended}
-use Rattle.crc_join.specs.Product.{product, power, product-power}
+use Rattle.crc32c.specs.Product.{product, power, product-power}
 
 abbrev ones : ℕ
 ones = 0xFFFF_FFFF

@@ -1,2 +1,2 @@
-pub mod Product
+-- A checksum by the checksums of its parts: laws.
 pub mod Join

@@ -4,7 +4,7 @@ ghost use mathlib.Core.Path.{_≡_};
 ghost use Prim.Native.Nat.{_*_, _<_, _^_};
 ghost use Rattle.crc32c.specs.Crc.{poly, bits, crcOf};
 ghost use Rattle.crc32c.specs.Extend.{extended};
-ghost use Rattle.crc_join.specs.Product.{product};
+ghost use Rattle.crc32c.specs.Product.{product};
 
 const POLYNOMIAL: u64 = 0x82F6_3B78;
 

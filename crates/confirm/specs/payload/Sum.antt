@@ -17,7 +17,7 @@ use Rattle.octets.specs.le.Le.{Bytes, leOf, leAt, leBytes}
 use Rattle.octets.specs.le.Laws.{length-leBytes, leOf-leBytes, bytes-take, bytes-drop}
 use Rattle.crc32c.specs.Crc.{bit, crcOf}
 use Rattle.crc32c.specs.Extend.{extended, extended-first, extended-lt, crcOf-append}
-use Rattle.crc_join.specs.Product.{product, digits, power, powers, powers-at, power-more}
+use Rattle.crc32c.specs.Product.{product, digits, power, powers, powers-at, power-more}
 use Rattle.crc_join.specs.Join.{extended-zeros}
 use Rattle.manifest.specs.Payload.{payloadLength, rootBytes, root, entriesEnd}
 use Rattle.manifest.specs.At.{entriesAt, recordHead, fill, payloadAt, length-rootBytes}
