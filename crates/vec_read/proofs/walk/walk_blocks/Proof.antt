@@ -68,18 +68,6 @@ inside k =
       (round64-ge (k .before .b2 .given .0 .0 + 4), small (l cb .before .before .before .before)),
     )
 
-u32-at-requires : tie.Need-u32-at-requires Inv-loop μ-loop
-u32-at-requires c κs = search needs
-
-cast-blocks : tie.Need-cast-blocks Inv-loop μ-loop
-cast-blocks c = search needs
-
-mul-round-up : tie.Need-mul-round-up Inv-loop μ-loop
-mul-round-up c = search needs
-
-add-round-up : tie.Need-add-round-up Inv-loop μ-loop
-add-round-up c = search needs
-
 round-up-requires : tie.Need-round-up-requires Inv-loop μ-loop
 unfolding blockCount
 round-up-requires c κs = omega (arith, c .u32-at .ensures)
@@ -161,7 +149,7 @@ pub walk-blocks-spec : {M : Type 1} → statement M
 walk-blocks-spec =
     tie.close
     (tie.spec
-    Inv-loop μ-loop u32-at-requires cast-blocks mul-round-up add-round-up round-up-requires
+    Inv-loop μ-loop (search needs) (search needs) (search needs) (search needs) round-up-requires
     loop-holds (λ c. omega (arith, lines c)) (λ c. omega (arith, lines c)) (λ c κs. omega (arith, lines c)) (search needs) (search needs) returns
     (λ c. omega (arith, lines (c .before .before))) (λ c κs. omega (arith, lines (c .before .before))) (search needs)
     (λ c. omega (arith, lines (c .before .before .before))) (λ c κs. omega (arith, lines (c .before .before .before))) (search needs)
