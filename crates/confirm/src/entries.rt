@@ -18,14 +18,15 @@ pub fn copy_at(buf: &mut [u8], at: usize, file: &[u8], from: usize, n: usize)
 }
 
 // Two words of the file, at a place of a buffer. Each is read and written by one move, where a loop over the bytes
-// moves them one by one.
+// moves them one by one; and the first is written before the second is read, or the compiler takes three moves for
+// both.
 fn copy_words(buf: &mut [u8], at: usize, file: &[u8], from: usize)
     requires { ⌜ (at + 16 ≤ length (now buf)) × (from + 16 ≤ length (now file)) ⌝ }
     ensures { λ _. ⌜ now (buf .exit) ≡ over (now (buf .entry)) at (take 16 (drop from (now (file .entry)))) ⌝ }
 {
     let low = octets::le::u64_at(file, from);
-    let high = octets::le::u64_at(file, from + 8);
     octets::le::put(buf, at, 8, low);
+    let high = octets::le::u64_at(file, from + 8);
     octets::le::put(buf, at + 8, 8, high);
 }
 

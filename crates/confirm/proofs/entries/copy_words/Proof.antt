@@ -9,9 +9,9 @@ use Rattle.confirm.proofs.entries.copy_words.Tie as tie
 returns : tie.Need-returns
 returns c =
     let p2 = c .before .before in
-    let p = p2 .before .before .before .before in
-    let u2 = p .before .before in
-    let u = u2 .before in
+    let u2 = p2 .before .before in
+    let p = u2 .before .before .before in
+    let u = p .before .before in
     let k = u .before in
     let s = k .before .before in
     words-copied (s .args .buf .now) _ _ (s .args .file .now) (s .args .at) (s .args .from) _ _
