@@ -4,11 +4,12 @@
 use Prim.Native.Nat.{ℕ, zero, suc, _+_, _-_, _*_, _^_, _<_, _≤_}
 use mathlib.Core.Path.{_≡_, refl, sym, ap, ap₂, subst, _∙_}
 use mathlib.Core.Bool.{Bool, true, false}
-use mathlib.Core.List.{List, [], _∷_}
+use mathlib.Core.List.{List, [], _∷_, _++_}
 use native.Mathlib.Nat.{zero-add}
 use native.Mathlib.Omega.{arith}
 use lib.Bits.{bitXor, xor-zero-l, xor-zero-r}
 use lib.ListN.{length, getD, drop, set, replicate, drop-of-length-le, List·getD-eq-default}
+use lib.Seq.{getD-drop}
 use Rattle.octets.specs.Over.{over}
 use Rattle.octets.specs.le.Le.{leOf, leBytes, Bytes}
 use Rattle.octets.specs.le.Laws.{bytes-leBytes, length-leBytes, leOf-leBytes}
@@ -17,7 +18,7 @@ use Rattle.crc32c.specs.Xor.{xor-assoc}
 use Rattle.crc32c.specs.Linear.{bits-add, bits-none}
 use Rattle.crc32c.specs.Words.{le, crcFrom-le}
 use Rattle.crc32c.specs.Sparse.{sum, taps, Multiple, taps-back, near, near-multiple, far, far-multiple}
-use Rattle.crc32c.specs.Span.{span, span-all, zeros-at}
+use Rattle.crc32c.specs.Span.{span, span-all}
 use Rattle.crc32c.specs.Window.{Inside, sum-inside, held, held-same, taken-in, moved-held}
 
 -- the places inside, of the near multiple and of the far one
@@ -119,21 +120,32 @@ held-bytes long inner fits l good c h =
     (sum-inside (λ k. span (leBytes 4 c) 0 k) (λ k. bits poly (8 * k) c) inner long fits (λ k hk _. span-from c k h hk))
     ∙ taps-back (long ∷ inner) good c h
 
-start-same : (c a n : ℕ) → getD (over (replicate (suc (suc (suc (suc a)))) 0) 0 (leBytes 4 c)) n 0 ≡ getD (leBytes 4 c) n 0
+-- laid over the front of a list that has zeros there
+start-same : (c : ℕ) (l : List ℕ) (n : ℕ) → getD l n 0 ≡ 0 → getD (over l 0 (leBytes 4 c)) n 0 ≡ getD (leBytes 4 c) n 0
 unfolding over leBytes
-start-same c a zero = refl
-start-same c a (suc zero) = refl
-start-same c a (suc (suc zero)) = refl
-start-same c a (suc (suc (suc zero))) = refl
-start-same c a (suc (suc (suc (suc n)))) = zeros-at a n
+start-same c l zero z = refl
+start-same c l (suc zero) z = refl
+start-same c l (suc (suc zero)) z = refl
+start-same c l (suc (suc (suc zero))) z = refl
+start-same c l (suc (suc (suc (suc n)))) z =
+    let e : 4 + n ≡ suc (suc (suc (suc n))) = omega arith in
+    getD-drop 4 l n 0 ∙ ap (λ (k : ℕ). getD l k 0) e ∙ z
 
-pub started : (far? : Bool) (a c : ℕ) → c < 2 ^ 32 → held (reachOf far?) (over (replicate (suc (suc (suc (suc a)))) 0) 0 (leBytes 4 c)) 0 ≡ c
-unfolding reachOf
-started true a c h =
-    held-same 5275 farInner far-inside _ _ 0 0 (λ n _. start-same c a (0 + n)) ∙ held-bytes 5275 farInner far-inside (omega arith) far-multiple c h
-started false a c h =
-    held-same 299 nearInner near-inside _ _ 0 0 (λ n _. start-same c a (0 + n)) ∙ held-bytes 299 nearInner near-inside (omega arith) near-multiple c h
+pub started : (far? : Bool) (l : List ℕ) (c : ℕ) → c < 2 ^ 32 → ((n : ℕ) → n < sizeOf far? → getD l n 0 ≡ 0) → held (reachOf far?) (over l 0 (leBytes 4 c)) 0 ≡ c
+unfolding reachOf sizeOf
+started true l c h z =
+    held-same 5275 farInner far-inside _ _ 0 0 (λ n hn. start-same c l (0 + n) (z (0 + n) (omega arith)))
+    ∙ held-bytes 5275 farInner far-inside (omega arith) far-multiple c h
+started false l c h z =
+    held-same 299 nearInner near-inside _ _ 0 0 (λ n hn. start-same c l (0 + n) (z (0 + n) (omega arith)))
+    ∙ held-bytes 299 nearInner near-inside (omega arith) near-multiple c h
 
--- the two by the flag
-pub by-flag : (far? b : Bool) → far? ≡ b → (sizeOf far? ≡ sizeOf b) × (reachOf far? ≡ reachOf b)
-by-flag far? b e = (ap sizeOf e, ap reachOf e)
+-- a list whose front was cleared
+zeros-front : (k n : ℕ) (t : List ℕ) → n < k → _≡_ {A = ℕ} (getD (replicate k 0 ++ t) n 0) 0
+zeros-front zero n t h = omega arith
+zeros-front (suc k) zero t h = refl
+zeros-front (suc k) (suc n) t h = zeros-front k n t (omega arith)
+
+pub cleared : (l : List ℕ) (k n : ℕ) → n < k → getD (over l 0 (replicate k 0)) n 0 ≡ 0
+unfolding over
+cleared l k n h = zeros-front k n (drop (0 + length (replicate k 0)) l) h

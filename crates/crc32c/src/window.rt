@@ -80,7 +80,7 @@ fn bring_down(w: &mut [u8], by: usize, by_far: bool)
 
 // Takes a slice in by parts. The window then stands at the place that is answered.
 fn take_in(w: &mut [u8], s: &[u8], by_far: bool) -> usize
-    requires { ⌜ length (now w) ≡ 8192 + sizeOf «by_far» ⌝ }
+    requires { ⌜ 8192 + sizeOf «by_far» ≤ length (now w) ⌝ }
     ensures { λ r. ⌜ (held (reachOf «by_far») (now (w .exit)) r
         ≡ crcFrom (held (reachOf «by_far») (now (w .entry)) 0) (now (s .entry))) × (r ≤ 8192) ⌝ }
 {
@@ -130,20 +130,29 @@ fn far_message(m: &mut [u8], w: &[u8], at: usize)
     add(m, w, at, FAR);
 }
 
-// The register after a slice, turned over: all of it goes into the near window, and the window's message through the lanes.
+// The register after a slice, turned over: all of it goes into the near window, and the window's message through the
+// lanes. The window is made in a buffer that the caller has.
+fn near_in(w: &mut [u8], c: u64, s: &[u8]) -> u32
+    requires { ⌜ (c < 2 ^ 32) × (8491 ≤ length (now w)) ⌝ }
+    ensures { λ r. ⌜ r ≡ bitXor (crcFrom c (now (s .entry))) 0xFFFF_FFFF ⌝ }
+{
+    octets::clear_part(w, 0, NEAR);
+    octets::le::put(w, 0, 4, c);
+    let at = take_in(w, s, false);
+    let mut m = [0u8; NEAR];
+    near_message(&mut m, w, at);
+    crate::by_lanes(0, &m)
+}
+
 pub fn by_near(c: u64, s: &[u8]) -> u32
     requires { ⌜ c < 2 ^ 32 ⌝ }
     ensures { λ r. ⌜ r ≡ bitXor (crcFrom c (now (s .entry))) 0xFFFF_FFFF ⌝ }
 {
     let mut w = [0u8; PART + NEAR];
-    octets::le::put(&mut w, 0, 4, c);
-    let at = take_in(&mut w, s, false);
-    let mut m = [0u8; NEAR];
-    near_message(&mut m, &w, at);
-    crate::by_lanes(0, &m)
+    near_in(&mut w, c, s)
 }
 
-// The same by the far window, whose message goes through the near one.
+// The same by the far window, whose message goes through the near one. That is made where the far one stood.
 pub fn by_far(c: u64, s: &[u8]) -> u32
     requires { ⌜ c < 2 ^ 32 ⌝ }
     ensures { λ r. ⌜ r ≡ bitXor (crcFrom c (now (s .entry))) 0xFFFF_FFFF ⌝ }
@@ -153,5 +162,5 @@ pub fn by_far(c: u64, s: &[u8]) -> u32
     let at = take_in(&mut w, s, true);
     let mut m = [0u8; FAR];
     far_message(&mut m, &w, at);
-    by_near(0, &m)
+    near_in(&mut w, 0, &m)
 }

@@ -13,13 +13,13 @@ use Rattle.crc32c.proofs.window.take_in.Tie as tie
 
 abbrev Inv-loop : tie.InvT-loop
 Inv-loop w₀ s by-far at₀ w at =
-    (at ≤ length s) × ((length w ≡ 8192 + sizeOf by-far) × (crcFrom (held (reachOf by-far) w 0) (drop at s) ≡ crcFrom (held (reachOf by-far) w₀ 0) s))
+    (at ≤ length s) × ((length w ≡ length w₀) × (crcFrom (held (reachOf by-far) w 0) (drop at s) ≡ crcFrom (held (reachOf by-far) w₀ 0) s))
 
 abbrev μ-loop : tie.MeasureT-loop
 μ-loop w₀ s by-far at₀ w at = length s - at
 
 loop-holds : tie.Need-loop-holds Inv-loop μ-loop
-loop-holds c = (omega arith, (c .before .before .pre, refl))
+loop-holds c = (omega arith, (refl, refl))
 
 loop-again : tie.Need-loop-again Inv-loop μ-loop
 loop-again c =
