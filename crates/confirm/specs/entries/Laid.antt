@@ -10,7 +10,7 @@ use lib.ListN.{length, take, drop, getD, set, replicate, length-append, length-d
 use lib.Seq.{length-take-le, take-all, take-add, drop-drop, getD-take}
 use borrow.Rule.Slice.PartMut.{putMid}
 use Rattle.octets.specs.Over.{over}
-use Rattle.octets.specs.OverLaws.{over-none, over-turn, over-then, over-at, length-over}
+use Rattle.octets.specs.OverLaws.{over-none, over-turn, over-then, length-over}
 use Rattle.octets.specs.Parts.{back}
 use Rattle.octets.specs.Round.{round64}
 use Rattle.octets.specs.le.Le.{Bytes, leAt, leBytes}
@@ -18,7 +18,7 @@ use Rattle.octets.specs.le.Laws.{length-leBytes, le-back}
 use Rattle.manifest.specs.Sized.{entriesOf}
 use Rattle.manifest.specs.SizedLaws.{entriesOf-more}
 use Rattle.manifest.specs.Payload.{entrySize, recordEnd, payloadLength, rootBytes, root, entriesEnd}
-use Rattle.manifest.specs.At.{Inside, entryAt, entriesAt, recordHead, fill, payloadAt, length-entriesAt, length-recordHead, length-fill, length-rootBytes, length-root, record-ge}
+use Rattle.manifest.specs.At.{Inside, entryAt, entriesAt, recordHead, fill, payloadAt, length-entriesAt, length-recordHead, length-fill, length-root, record-ge}
 use Rattle.segment.specs.Header.{kindAt}
 
 -- ---- pieces

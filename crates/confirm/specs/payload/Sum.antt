@@ -7,7 +7,7 @@ use mathlib.Core.List.{List, [], _∷_, _++_, append-assoc}
 use native.Mathlib.Omega.{arith}
 use lib.Bits.{bitXor}
 use lib.Dec.{lit<}
-use lib.ListN.{length, take, drop, replicate, length-append, length-drop, getD, take-append-drop}
+use lib.ListN.{length, take, drop, replicate, length-append, getD, take-append-drop}
 use lib.Seq.{take-at, take-take, take-all, drop-at, drop-drop}
 use Rattle.octets.specs.Over.{over}
 use Rattle.octets.specs.OverLaws.{over-at, over-then}
