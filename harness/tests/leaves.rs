@@ -151,8 +151,13 @@ fn checksums_of_long_data() {
         let from = rng.below(61);
         assert_eq!(Library.crc32c(&data[from..from + length]), crc::crc32c(&data[from..from + length]), "{length} bytes");
     }
-    for _ in 0..3_000 {
-        let length = rng.below(20_000);
+    // Around the lengths where a window, a part of one and a second window begin.
+    let edges = [1_024, 1_024 + 299, 8_192, 8_192 + 299, 16_384, 32_768, 32_768 + 8_192, 40_960 + 5_275, 49_152];
+    for length in edges.iter().flat_map(|edge| edge - 3..edge + 4) {
+        assert_eq!(Library.crc32c(&data[..length]), crc::crc32c(&data[..length]), "{length} bytes");
+    }
+    for round in 0..4_000 {
+        let length = rng.below(if round < 3_000 { 20_000 } else { 120_000 });
         let from = rng.below(100_000);
         assert_eq!(Library.crc32c(&data[from..from + length]), crc::crc32c(&data[from..from + length]), "{length} from {from}");
     }

@@ -1,6 +1,6 @@
-// CRC32C of a slice, in four lanes of eight bytes. No table stands here. Eight steps with a polynomial that is known
-// are a loop that the compiler replaces by a look-up in a table of 256 numbers, which it lays down once among the
-// program's constants. A constant array of the source would be copied at each call.
+// CRC32C of a slice: a short one in four lanes of eight bytes, a longer one by windows. No table stands here. Eight
+// steps with a polynomial that is known are a loop that the compiler replaces by a look-up in a table of 256 numbers,
+// which it lays down once among the program's constants. A constant array of the source would be copied at each call.
 pub mod window;
 
 ghost use mathlib.Core.Path.{_≡_};
@@ -199,8 +199,8 @@ pub fn extend(sum: u32, data: &[u8]) -> u32
     crate::window::by_far(c, data)
 }
 
-// The CRC32C of a slice. It is `extend` behind nothing, written out: with two callers each the three ways stay functions
-// of their own, and a short slice does not pay for the frame of a long one.
+// The CRC32C of a slice. It is `extend` behind nothing, written out: with two callers each the three ways stay
+// functions of their own, and a short slice does not pay for the frame of a long one.
 pub fn checksum(data: &[u8]) -> u32
     ensures { λ r. ⌜ r ≡ crcOf (now («data» .entry)) ⌝ }
 {

@@ -98,7 +98,8 @@ fn take_in(w: &mut [u8], s: &[u8], by_far: bool) -> usize
 // Adds k bytes from a place on to the last k of a message.
 fn add(m: &mut [u8], w: &[u8], at: usize, k: usize)
     requires { ⌜ (k ≤ length (now m)) × (at + k ≤ length (now w)) ⌝ }
-    ensures { λ _. ⌜ (length (now (m .exit)) ≡ length (now (m .entry))) × (span (now (m .exit)) 0 (length (now (m .entry)))
+    ensures { λ _. ⌜ (length (now (m .exit)) ≡ length (now (m .entry)))
+        × (span (now (m .exit)) 0 (length (now (m .entry)))
         ≡ bitXor (span (now (w .entry)) at k) (span (now (m .entry)) 0 (length (now (m .entry))))) ⌝ }
 {
     let d = m.len() - k;

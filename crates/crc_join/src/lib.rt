@@ -64,12 +64,13 @@ pub fn zeros(c: u64, n: usize) -> u64
     requires { ⌜ (c < 2 ^ 32) × (n < 2 ^ 32) ⌝ }
     ensures { λ r. ⌜ (r ≡ bits poly (8 * n) c) × (r < 2 ^ 32) ⌝ }
 {
+    let powers = POWERS;
     let mut x = c;
     let mut m = n;
     let mut j: usize = 0;
     while m > 0 {
         if m % 2 == 1 {
-            x = times(x, POWERS[j]);
+            x = times(x, powers[j]);
         }
         m = m / 2;
         j += 1;

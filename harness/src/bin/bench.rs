@@ -48,13 +48,25 @@ fn seconds(call: &mut impl FnMut(), calls: usize) -> f64 {
     start.elapsed().as_secs_f64() / calls as f64
 }
 
+/// A line whose two peers are the reference, with its checksums by the textbook and by the best way.
+pub fn line(name: &str, unit: Unit, ours: impl FnMut(), theirs: impl FnMut()) {
+    let theirs = std::cell::RefCell::new(theirs);
+    peers(
+        name,
+        unit,
+        ours,
+        || theirs.borrow_mut()(),
+        || theirs.borrow_mut()(),
+    );
+}
+
 /// Measures all in turn, round by round, so that a busy machine hurts them alike, and prints
 /// the line.
-pub fn line(name: &str, unit: Unit, mut ours: impl FnMut(), mut theirs: impl FnMut()) {
+pub fn peers(name: &str, unit: Unit, mut ours: impl FnMut(), mut textbook: impl FnMut(), mut best: impl FnMut()) {
     // As many calls a round as fill it, found by doubling: the first calls are cold.
     let mut calls = 1;
     while calls < 1 << 24 {
-        let slower = seconds(&mut ours, calls).max(seconds(&mut theirs, calls));
+        let slower = seconds(&mut ours, calls).max(seconds(&mut textbook, calls));
         if slower * calls as f64 >= ROUND.as_secs_f64() / 2.0 {
             break;
         }
@@ -63,9 +75,9 @@ pub fn line(name: &str, unit: Unit, mut ours: impl FnMut(), mut theirs: impl FnM
     let [mut best_ours, mut best_textbook, mut best_best] = [f64::MAX; 3];
     for _ in 0..ROUNDS {
         best_ours = best_ours.min(seconds(&mut ours, calls));
-        best_textbook = best_textbook.min(seconds(&mut theirs, calls));
+        best_textbook = best_textbook.min(seconds(&mut textbook, calls));
         take_best(true);
-        best_best = best_best.min(seconds(&mut theirs, calls));
+        best_best = best_best.min(seconds(&mut best, calls));
         take_best(false);
     }
     let shown = |seconds: f64| match unit {
@@ -91,8 +103,9 @@ pub fn line(name: &str, unit: Unit, mut ours: impl FnMut(), mut theirs: impl FnM
 pub mod theirs {
     use rvf_harness::calls::{Calls, Reference};
 
-    /// No wrapper: this function is not inlined across crates as it is.
-    pub use rvf_harness::reference::crc::crc32c;
+    /// No wrappers: these functions are not inlined across crates as they are.
+    pub use rvf_harness::reference::crc::crc32c_sliced;
+    pub use rvf_harness::reference::sparse::crc32c as crc32c_sparse;
 
     #[inline(never)]
     pub fn varint_read(data: &[u8], out: &mut [u64; 2]) -> u32 {
@@ -119,14 +132,17 @@ fn checksums() {
     let data = Rng::new(1).bytes(1 << 20);
     for (name, length) in [("1MiB", 1 << 20), ("64KiB", 1 << 16), ("4KiB", 4_096), ("512B", 512), ("64B", 64), ("16B", 16)] {
         let part = &data[..length];
-        line(
+        peers(
             &format!("crc32c_{name}"),
             Unit::Bytes(length),
             || {
                 black_box(Library.crc32c(black_box(part)));
             },
             || {
-                black_box(theirs::crc32c(black_box(part)));
+                black_box(theirs::crc32c_sliced(black_box(part)));
+            },
+            || {
+                black_box(theirs::crc32c_sparse(black_box(part)));
             },
         );
     }

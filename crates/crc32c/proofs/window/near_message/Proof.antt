@@ -5,7 +5,7 @@ use mathlib.Core.List.{List}
 use mathlib.Core.Path.{ap, _∙_}
 use borrow.Author.Needs.{needs}
 use Rattle.crc32c.specs.Sparse.{sum}
-use Rattle.crc32c.specs.Span.{span, span-none, added, left-by}
+use Rattle.crc32c.specs.Span.{span, span-none, Leaves, added, left-by}
 use Rattle.crc32c.specs.Window.{held}
 use Rattle.crc32c.proofs.window.near_message.Statement.{statement}
 use Rattle.crc32c.proofs.window.near_message.Tie as tie
@@ -21,13 +21,12 @@ returns c =
     let start = c1 .before .before .before .before in
     let w = start .args .w .now in
     let at = start .args .at in
-    left-by _ 299 _
-    (added _ _ w at 299 299 _ (added _ _ w at 142 299 _ (added _ _ w at 134 299 _ (added _ _ w at 62 299 _ (added _ _ w at 21 299 _ (start .pre .1 .0, ap (λ (l : List ℕ). span l 0 299) (start .pre .0) ∙ span-none 299 299)
-    (c1 .add .ensures))
-    (c2 .add2 .ensures))
-    (c3 .add3 .ensures))
-    (c4 .add4 .ensures))
-    (c5 .add5 .ensures))
+    let l0 : Leaves (start .args .m .now) 299 0 = (start .pre .1 .0, ap (λ (l : List ℕ). span l 0 299) (start .pre .0) ∙ span-none 299 299) in
+    let l1 = added _ _ w at 21 299 _ l0 (c1 .add .ensures) in
+    let l2 = added _ _ w at 62 299 _ l1 (c2 .add2 .ensures) in
+    let l3 = added _ _ w at 134 299 _ l2 (c3 .add3 .ensures) in
+    let l4 = added _ _ w at 142 299 _ l3 (c4 .add4 .ensures) in
+    left-by _ 299 _ (added _ _ w at 299 299 _ l4 (c5 .add5 .ensures))
 
 pub near-message-spec : {M : Type 1} → statement M
 near-message-spec = tie.close (tie.spec (search needs) (search needs) (search needs) (search needs) (search needs) (search needs) returns)
