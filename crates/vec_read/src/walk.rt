@@ -6,6 +6,7 @@ ghost use lib.ListN.{length, take};
 ghost use Rattle.octets.specs.numbers.Numbers.{indexOf};
 ghost use Rattle.answers.specs.limits.Limits.{maxVectors};
 ghost use Rattle.vec_read.specs.lines.Directory.{DirectoryGood};
+ghost use Rattle.vec_read.specs.lines.Counts.{CountsFit};
 ghost use Rattle.vec_read.specs.walk.Walk.{summedOf, searchedOf, sumOf, lookedOf, walkedOf};
 ghost use Rattle.vec_read.specs.walk.Sum.{SumTo, Holds};
 use crate::block::Block;
@@ -120,7 +121,7 @@ fn look(
 
 // The blocks of a payload whose directory is good; each is handed over as the part of the payload from its place.
 fn walk_blocks(s: &[u8], id: u64, summed: bool, looking: bool, scratch: &mut [u64]) -> Searched
-    requires { ⌜ (DirectoryGood (now s)) × (maxVectors ≤ length (now scratch)) ⌝ }
+    requires { ⌜ (DirectoryGood (now s)) × (CountsFit (now s) (length (now scratch))) ⌝ }
     ensures { λ r. ⌜ r ≡ walkedOf summed looking (now (s .entry)) id ⌝ }
 {
     let blocks = octets::le::u32_at(s, 0) as usize;
@@ -170,7 +171,29 @@ fn walk_blocks(s: &[u8], id: u64, summed: bool, looking: bool, scratch: &mut [u6
     }
 }
 
-// The walk with a list of our own for the ids of a block.
+// How many ids the short list of our own takes. Most blocks have no more, and a list for the largest block that may be
+// takes longer to clear than a small payload to check.
+const FEW: usize = 256;
+
+// The walk with a short list of our own for the ids of a block.
+fn walk_few(s: &[u8], id: u64, summed: bool, looking: bool) -> Searched
+    requires { ⌜ (DirectoryGood (now s)) × (CountsFit (now s) 256) ⌝ }
+    ensures { λ r. ⌜ r ≡ walkedOf summed looking (now (s .entry)) id ⌝ }
+{
+    let mut scratch = [0u64; FEW];
+    walk_blocks(s, id, summed, looking, &mut scratch)
+}
+
+// The walk with a list of our own that takes the ids of any block.
+fn walk_many(s: &[u8], id: u64, summed: bool, looking: bool) -> Searched
+    requires { ⌜ DirectoryGood (now s) ⌝ }
+    ensures { λ r. ⌜ r ≡ walkedOf summed looking (now (s .entry)) id ⌝ }
+{
+    let mut scratch = [0u64; answers::limits::MAX_VECTORS];
+    walk_blocks(s, id, summed, looking, &mut scratch)
+}
+
+// The walk with a list of our own, as short as the counts of the blocks allow.
 pub fn walk(s: &[u8], id: u64, summed: bool, looking: bool) -> Searched
     ensures { λ r. ⌜ r ≡ walkedOf summed looking (now (s .entry)) id ⌝ }
 {
@@ -178,8 +201,10 @@ pub fn walk(s: &[u8], id: u64, summed: bool, looking: bool) -> Searched
     if bad != 0 {
         return Searched::Refused(bad);
     }
-    let mut scratch = [0u64; answers::limits::MAX_VECTORS];
-    walk_blocks(s, id, summed, looking, &mut scratch)
+    if crate::lines::largest_count(s) <= FEW {
+        return walk_few(s, id, summed, looking);
+    }
+    walk_many(s, id, summed, looking)
 }
 
 // The check that keeps the payload's checksum.

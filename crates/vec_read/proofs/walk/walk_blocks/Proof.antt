@@ -7,6 +7,7 @@ use lib.ListN.{length}
 use Rattle.octets.specs.Round.{round64}
 use Rattle.octets.specs.RoundLaws.{round64-ge}
 use Rattle.vecseg.specs.Payload.{blockCount}
+use Rattle.vec_read.specs.lines.Counts.{count-fits}
 use Rattle.vec_read.specs.walk.Turn.{WalkAt, walk-first, turn-room, turn-offset, turn-bounds, turn-bad, turn-inside, turn-holds, turn-next, walk-more, walk-sum, walk-missing, walk-found}
 use borrow.Author.Needs.{needs}
 use Rattle.vec_read.proofs.walk.walk_blocks.Statement.{statement}
@@ -51,10 +52,8 @@ module _ (cb : tie.After-check-block Inv-loop μ-loop) where
   abbrev l : tie.At-loop Inv-loop μ-loop
   l = e1 .before .before .before
 
-  bounds : (1 ≤ u16 .before .u32-at3 .result) × (u16 .before .u32-at3 .result ≤ 4096) × (u16 .u16-at .result ≤ 1024)
-  bounds =
-      turn-bounds _ (call l .pre .0) _ _ _ _ _ _ _ _ (l .loop .inv .0) (more (e1 .before .before)) (sym (e1 .before .u32-at2 .ensures) ∙ e1 .if1 .left) _ _ _
-      (u16 .before .u32-at3 .ensures) (u16 .u16-at .ensures) refl
+  fits : u16 .before .u32-at3 .result ≤ length (call l .args .scratch .now)
+  fits = count-fits _ _ _ (call l .pre .1) _ (more (e1 .before .before)) _ (u16 .before .u32-at3 .ensures)
 
 -- where a block is sound: it lies in the payload
 inside : (k : tie.After-known-told2 Inv-loop μ-loop)
@@ -91,7 +90,8 @@ check-block-requires c κs =
     let l = e .before .before .before in
     let b = turn-bounds _ (call l .pre .0) _ _ _ _ _ _ _ _ (l .loop .inv .0) (omega arith) (sym (e .before .u32-at2 .ensures) ∙ e .if1 .left) _ _ _
     (u .before .u32-at3 .ensures) (u .u16-at .ensures) refl in
-    (b .0, (b .1, (omega (arith, b .1), b .2)))
+    let fits = count-fits _ _ _ (call l .pre .1) _ (more (e .before .before)) _ (u .before .u32-at3 .ensures) in
+    (b .0, (b .1, (omega (arith, fits, l .loop .inv .1 .1), b .2)))
 
 returns-2 : tie.Need-returns-2 Inv-loop μ-loop
 returns-2 c =
@@ -110,7 +110,7 @@ sum-on-requires c κs =
 look-requires : tie.Need-look-requires Inv-loop μ-loop
 look-requires c κs =
     let cb = c .before .before .before .before .before .before .before in
-    omega (arith, bounds cb .1, cb .check-block .kept .1 .1 .1 .1, l cb .loop .inv .1 .1, call (l cb) .pre .1)
+    omega (arith, fits cb, cb .check-block .kept .1 .1 .1 .1, l cb .loop .inv .1 .1)
 
 loop-again : tie.Need-loop-again Inv-loop μ-loop
 loop-again c =
