@@ -2,12 +2,14 @@
 -- Assumes nothing.
 use Prim.Native.Nat.{ℕ, _+_, _-_, _*_, _^_, _≤_, _<_}
 use mathlib.Core.Path.{_≡_, refl, sym, ap, _∙_}
+use mathlib.Core.Logic.{⊎-elim}
 use native.Mathlib.Omega.{arith}
 use lib.ListN.{length}
 use Rattle.octets.specs.Round.{round64}
 use Rattle.octets.specs.RoundLaws.{round64-ge}
 use Rattle.vecseg.specs.Payload.{blockCount}
 use Rattle.vec_read.specs.lines.Counts.{count-fits}
+use Rattle.vec_read.specs.walk.Walk.{looked-past, looked-here}
 use Rattle.vec_read.specs.walk.Turn.{WalkAt, walk-first, turn-room, turn-offset, turn-bounds, turn-bad, turn-inside, turn-holds, turn-next, walk-more, walk-sum, walk-missing, walk-found}
 use borrow.Author.Needs.{needs}
 use Rattle.vec_read.proofs.walk.walk_blocks.Statement.{statement}
@@ -114,12 +116,15 @@ look-requires c κs =
 
 loop-again : tie.Need-loop-again Inv-loop μ-loop
 loop-again c =
-    let so = c .before .before .before in
+    let lk = c .before .before in
+    let so = lk .before .before in
     let k = so .before in
     let cb = k .before .before .before .before .before in (
       turn-next _ (call (l cb) .pre .0) _ _ _ _ _ _ _ _ (l cb .loop .inv .0) (more (e1 cb .before .before)) (sym (e1 cb .before .u32-at2 .ensures) ∙ e1 cb .if1 .left) _ _ _
           (u16 cb .before .u32-at3 .ensures) (u16 cb .u16-at .ensures) refl _ _ (cb .check-block .ensures) _ (k .before .b2 .given .1) _ _ _ _
-          (c .round-up2 .ensures) (so .sum-on .ensures) (c .before .look .ensures),
+          (c .round-up2 .ensures) (so .sum-on .ensures)
+          (⊎-elim (λ w. w .3 ∙ looked-here _ _ _ _ _ _ _ (sym (lk .look .ensures) ∙ w .1 .given .1))
+          (λ w. w .2 ∙ looked-past _ _ _ _ _ _ (sym (lk .look .ensures) ∙ w .1 .given .1)) (c .before .match2 .came)),
       (l cb .loop .inv .1 .0, cb .check-block .kept .1 .1 .1 .1 .0 ∙ l cb .loop .inv .1 .1),
     )
 
@@ -137,7 +142,7 @@ returns-4 : tie.Need-returns-4 Inv-loop μ-loop
 returns-4 c =
     let sa = c .before .before in
     let l = sa .before .before .before in
-    walk-missing _ (call l .pre .0) _ _ _ _ _ _ _ _ (l .loop .inv .0) (omega arith) (sa .before .if2 .left) _ (sa .sum-all .ensures) (c .enum-told .given .1)
+    walk-missing _ (call l .pre .0) _ _ _ _ _ _ _ _ (l .loop .inv .0) (omega arith) (sa .before .if2 .left) _ (sa .sum-all .ensures) (c .enum-told2 .given .1)
 
 returns-5 : tie.Need-returns-5 Inv-loop μ-loop
 returns-5 c =
@@ -156,9 +161,9 @@ walk-blocks-spec =
     (λ c. omega (arith, lines (c .before .before .before .before))) (λ c. omega (arith, lines (c .before .before .before .before .before)))
     (λ c. let w = at-in c in omega arith) (λ c. let w = at-in c in omega arith) (search needs) check-block-requires
     (search needs) (search needs) returns-2 (search needs)
-    (λ c. omega (arith, inside c)) sum-on-requires look-requires
-    (λ c. omega (arith, inside (c .before .before .before)))
-    (λ c κs. omega (arith, inside (c .before .before .before)))
-    (λ c. omega (arith, inside (c .before .before .before .before), c .round-up2 .ensures))
+    (λ c. omega (arith, inside c)) sum-on-requires look-requires (search needs) (search needs)
+    (λ c. omega (arith, inside (c .before .before .before .before)))
+    (λ c κs. omega (arith, inside (c .before .before .before .before)))
+    (λ c. omega (arith, inside (c .before .before .before .before .before), c .round-up2 .ensures))
     (search needs) (search needs) loop-again (search needs) returns-3 sum-all-requires (search needs) (search needs) (search needs) returns-4
     (search needs) returns-5)
