@@ -3,7 +3,8 @@ ghost use mathlib.Core.Path.{_≡_};
 ghost use Prim.Native.Nat.{_+_, _*_, _≤_};
 ghost use lib.ListN.{length, drop};
 ghost use Rattle.vecseg.specs.Payload.{lineOf, lineBad, linesBad};
-ghost use Rattle.vec_read.specs.lines.Directory.{DirectoryRead};
+ghost use Rattle.vec_read.specs.lines.Directory.{DirectoryGood, DirectoryRead};
+ghost use Rattle.vec_read.specs.lines.Counts.{CountsFit};
 
 // One line of the directory: counts and dim 5, dtype 6.
 fn check_line(s: &[u8], at: usize) -> u32
@@ -69,4 +70,30 @@ pub fn check_directory(s: &[u8]) -> u32
         return 5;
     }
     0
+}
+
+// The larger of two counts.
+fn larger(a: usize, b: usize) -> usize
+    ensures { λ r. ⌜ (a ≤ r) × (b ≤ r) ⌝ }
+{
+    if a < b {
+        return b;
+    }
+    a
+}
+
+// The largest count among the lines of a good directory: a list so long takes the ids of each block.
+pub fn largest_count(s: &[u8]) -> usize
+    requires { ⌜ DirectoryGood (now s) ⌝ }
+    ensures { λ r. ⌜ CountsFit (now (s .entry)) r ⌝ }
+{
+    let blocks = octets::le::u32_at(s, 0) as usize;
+    let mut largest: usize = 0;
+    let mut i: usize = 0;
+    while i < blocks {
+        let count = octets::le::u32_at(s, 4 + 12 * i + 4) as usize;
+        largest = larger(largest, count);
+        i += 1;
+    }
+    largest
 }

@@ -3,10 +3,11 @@
 ghost use mathlib.Core.Path.{_≡_};
 ghost use Prim.Native.Nat.{_≤_};
 ghost use lib.ListN.{length, take};
-ghost use Rattle.octets.specs.numbers.Numbers.{indexOf};
+ghost use Rattle.octets.specs.numbers.Numbers.{indexOf, indexAnswer};
 ghost use Rattle.answers.specs.limits.Limits.{maxVectors};
 ghost use Rattle.vec_read.specs.lines.Directory.{DirectoryGood};
-ghost use Rattle.vec_read.specs.walk.Walk.{summedOf, searchedOf, sumOf, lookedOf, walkedOf};
+ghost use Rattle.vec_read.specs.lines.Counts.{CountsFit};
+ghost use Rattle.vec_read.specs.walk.Walk.{summedOf, searchedOf, sumOf, askedOf, walkedOf};
 ghost use Rattle.vec_read.specs.walk.Sum.{SumTo, Holds};
 use crate::block::Block;
 use octets::numbers::Index;
@@ -88,39 +89,22 @@ fn sum_all(summed: bool, sum: Sum, s: &[u8]) -> u32
     crc32c::extend(sum.value, &s[from..])
 }
 
-// The place that is kept behind a block, whose ids are at hand. Ids may repeat, and the last copy counts.
-fn look(
-    looking: bool,
-    ids: &[u64],
-    id: u64,
-    offset: usize,
-    count: usize,
-    dim: usize,
-    dtype: u8,
-    kept: Kept,
-) -> Kept
+// Where the id stands among those of a block, which are at hand; nowhere where none is looked for.
+fn look(looking: bool, ids: &[u64], count: usize, id: u64) -> Index
     requires { ⌜ count ≤ length (now ids) ⌝ }
-    ensures { λ r. ⌜ r ≡ lookedOf looking (indexOf id (take count (now (ids .entry)))) offset count dim dtype kept ⌝ }
+    ensures { λ r. ⌜ r ≡ indexAnswer (askedOf looking (indexOf id (take count (now (ids .entry))))) ⌝ }
 {
     if !looking {
-        return kept;
+        return Index::Nowhere;
     }
-    let place = octets::numbers::index_of(ids, count, id);
-    match place {
-        Index::Nowhere => kept,
-        Index::Place(index) => Kept::At {
-            offset,
-            count,
-            dim,
-            dtype,
-            index,
-        },
-    }
+    octets::numbers::index_of(ids, count, id)
 }
 
-// The blocks of a payload whose directory is good; each is handed over as the part of the payload from its place.
+// The blocks of a payload whose directory is good; each is handed over as the part of the payload from its place. Ids
+// may repeat, and the last copy counts. What is kept is written only where the id is found: written anew at each block,
+// it costs more than the block's other tests.
 fn walk_blocks(s: &[u8], id: u64, summed: bool, looking: bool, scratch: &mut [u64]) -> Searched
-    requires { ⌜ (DirectoryGood (now s)) × (maxVectors ≤ length (now scratch)) ⌝ }
+    requires { ⌜ (DirectoryGood (now s)) × (CountsFit (now s) (length (now scratch))) ⌝ }
     ensures { λ r. ⌜ r ≡ walkedOf summed looking (now (s .entry)) id ⌝ }
 {
     let blocks = octets::le::u32_at(s, 0) as usize;
@@ -141,7 +125,16 @@ fn walk_blocks(s: &[u8], id: u64, summed: bool, looking: bool, scratch: &mut [u6
             Block::Refused(number) => return Searched::Refused(number),
             Block::Sound(n) => {
                 sum = sum_on(summed, sum, s, at, at + n);
-                kept = look(looking, scratch, id, at, count, dim, dtype, kept);
+                let place = look(looking, scratch, count, id);
+                if let Index::Place(index) = place {
+                    kept = Kept::At {
+                        offset: at,
+                        count,
+                        dim,
+                        dtype,
+                        index,
+                    };
+                }
                 at += octets::round_up(n + 4);
                 i += 1;
             }
@@ -170,7 +163,29 @@ fn walk_blocks(s: &[u8], id: u64, summed: bool, looking: bool, scratch: &mut [u6
     }
 }
 
-// The walk with a list of our own for the ids of a block.
+// How many ids the short list of our own takes. Most blocks have no more, and a list for the largest block that may be
+// takes longer to clear than a small payload to check.
+const FEW: usize = 256;
+
+// The walk with a short list of our own for the ids of a block.
+fn walk_few(s: &[u8], id: u64, summed: bool, looking: bool) -> Searched
+    requires { ⌜ (DirectoryGood (now s)) × (CountsFit (now s) 256) ⌝ }
+    ensures { λ r. ⌜ r ≡ walkedOf summed looking (now (s .entry)) id ⌝ }
+{
+    let mut scratch = [0u64; FEW];
+    walk_blocks(s, id, summed, looking, &mut scratch)
+}
+
+// The walk with a list of our own that takes the ids of any block.
+fn walk_many(s: &[u8], id: u64, summed: bool, looking: bool) -> Searched
+    requires { ⌜ DirectoryGood (now s) ⌝ }
+    ensures { λ r. ⌜ r ≡ walkedOf summed looking (now (s .entry)) id ⌝ }
+{
+    let mut scratch = [0u64; answers::limits::MAX_VECTORS];
+    walk_blocks(s, id, summed, looking, &mut scratch)
+}
+
+// The walk with a list of our own, as short as the counts of the blocks allow.
 pub fn walk(s: &[u8], id: u64, summed: bool, looking: bool) -> Searched
     ensures { λ r. ⌜ r ≡ walkedOf summed looking (now (s .entry)) id ⌝ }
 {
@@ -178,8 +193,10 @@ pub fn walk(s: &[u8], id: u64, summed: bool, looking: bool) -> Searched
     if bad != 0 {
         return Searched::Refused(bad);
     }
-    let mut scratch = [0u64; answers::limits::MAX_VECTORS];
-    walk_blocks(s, id, summed, looking, &mut scratch)
+    if crate::lines::largest_count(s) <= FEW {
+        return walk_few(s, id, summed, looking);
+    }
+    walk_many(s, id, summed, looking)
 }
 
 // The check that keeps the payload's checksum.

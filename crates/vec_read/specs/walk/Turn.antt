@@ -28,7 +28,7 @@ use Rattle.vec_read.specs.declared.walk.Kept.{Kept}
 use Rattle.vec_read.specs.declared.walk.Kept.the-variants.{At as KeptAt, Nowhere}
 use Rattle.vec_read.specs.block.Block.{BlockSays, SoundTo, lineWith, line-with, was-sound, was-bad}
 use Rattle.vec_read.specs.lines.Directory.{DirectoryGood, start-inside, blocks-left}
-use Rattle.vec_read.specs.walk.Walk.{sumOf, foundUpTo, walkedOf, keptOf, lookedOf, kept-nowhere, kept-at, walked-bad, walked-sound}
+use Rattle.vec_read.specs.walk.Walk.{sumOf, foundUpTo, walkedOf, keptOf, lookedOf, askedOf, kept-nowhere, kept-at, walked-bad, walked-sound}
 use Rattle.vec_read.specs.walk.Sum.{SumTo, Holds, sum-first, sum-kept}
 
 -- where the walk stands: i blocks are passed, the next is to begin at `at`; the checksum and the place are of what stands before
@@ -138,25 +138,25 @@ module _ (s : List ℕ) (g : DirectoryGood s) (id : ℕ) (summed looking : Bool)
           unfolding keptOf line lineAt
           here-at k = rw (line-offset, line-count, line-dim, line-dtype)
 
-          looked : lookedOf looking (indexOf id (idsAt s i)) at count dim dtype kept ≡ keptOf (foundUpTo looking (suc i) s id)
-          unfolding lookedOf foundUpTo
+          looked : lookedOf (askedOf looking (indexOf id (idsAt s i))) at count dim dtype kept ≡ keptOf (foundUpTo looking (suc i) s id)
+          unfolding lookedOf askedOf foundUpTo
           looked = pick looking (indexOf id (idsAt s i)) refl (st .kept-is)
             where
               pick : (t : Bool) (o : Option ℕ) → indexOf id (idsAt s i) ≡ o → kept ≡ keptOf (foundUpTo t i s id)
-                  → lookedOf t o at count dim dtype kept ≡ keptOf (foundUpTo t (suc i) s id)
+                  → lookedOf (askedOf t o) at count dim dtype kept ≡ keptOf (foundUpTo t (suc i) s id)
               pick true none p w = w ∙ ap keptOf (sym (find-on s id i p))
               pick true (some k) p w = here-at k ∙ ap keptOf (sym (find-here s id i k p))
               pick false none p w = w
               pick false (some k) p w = w
 
           pub turn-next : (k value′ to′ : ℕ) (kept′ : Kept) → k ≡ round64 (n + 4) → SumTo summed s value′ to′ (at + n)
-              → kept′ ≡ lookedOf looking (indexOf id (take count own)) at count dim dtype kept → WalkAt s id summed looking (i + 1) (at + k) value′ to′ kept′
+              → kept′ ≡ lookedOf (askedOf looking (indexOf id (take count own))) at count dim dtype kept → WalkAt s id summed looking (i + 1) (at + k) value′ to′ kept′
           turn-next k value′ to′ kept′ e p w =
               record {
                 blocks = rw e passed;
                 lines = lines-on s (blockCount s) i (st .lines) h (g .lines);
                 sum = sum-kept summed s value′ to′ (at + n) p (at + k) (omega (arith, round64-ge (n + 4)));
-                kept-is = rw add-one (w ∙ ap (λ (x : List ℕ). lookedOf looking (indexOf id x) at count dim dtype kept) own-ids ∙ looked);
+                kept-is = rw add-one (w ∙ ap (λ (x : List ℕ). lookedOf (askedOf looking (indexOf id x)) at count dim dtype kept) own-ids ∙ looked);
               }
 
   -- ---- behind the last block

@@ -10,6 +10,7 @@ use lib.Dec.{eqb}
 use borrow.Author.Tests.{ne-eqb, eqb-true, eqb-false}
 use Rattle.octets.specs.numbers.Numbers.{indexAnswer}
 use Rattle.octets.specs.numbers.NumbersLaws.{was-nowhere, was-place}
+use Rattle.octets.specs.declared.numbers.Index.{Index}
 use Rattle.octets.specs.declared.numbers.Index.the-variants.{Place as IndexPlace, Nowhere as NoIndex}
 use Rattle.crc32c.specs.Crc.{crcOf}
 use Rattle.vecseg.specs.Payload.{blockCount, checkOf}
@@ -51,23 +52,30 @@ unfoldable pub keptOf : Option Place → Kept
 keptOf none = Nowhere
 keptOf (some p) = KeptAt (p .line .offset) (p .line .count) (p .line .dim) (p .line .dtype) (p .index)
 
-unfoldable pub lookedOf : Bool → Option ℕ → ℕ → ℕ → ℕ → ℕ → Kept → Kept
-lookedOf looking none offset count dim dtype kept = kept
-lookedOf looking (some k) offset count dim dtype kept = cond looking (KeptAt offset count dim dtype k) kept
+unfoldable pub lookedOf : Option ℕ → ℕ → ℕ → ℕ → ℕ → Kept → Kept
+lookedOf none offset count dim dtype kept = kept
+lookedOf (some k) offset count dim dtype kept = KeptAt offset count dim dtype k
 
-pub looked-not : (looking : Bool) (o : Option ℕ) (offset count dim dtype : ℕ) (kept : Kept) → looking ≡ false → kept ≡ lookedOf looking o offset count dim dtype kept
-unfolding lookedOf
-looked-not looking none offset count dim dtype kept e = refl
-looked-not looking (some k) offset count dim dtype kept e = rw e
+-- the id's index among the block's ids, none where no id is looked for
+unfoldable pub askedOf : Bool → Option ℕ → Option ℕ
+askedOf looking o = cond looking o none
 
-pub looked-past : (looking : Bool) (o : Option ℕ) (offset count dim dtype : ℕ) (kept : Kept) → indexAnswer o ≡ NoIndex → kept ≡ lookedOf looking o offset count dim dtype kept
-unfolding lookedOf
-looked-past looking o offset count dim dtype kept p = rw (was-nowhere o p)
+pub asked-not : (looking : Bool) (o : Option ℕ) → looking ≡ false → NoIndex ≡ indexAnswer (askedOf looking o)
+unfolding askedOf indexAnswer
+asked-not looking o e = rw e
 
-pub looked-here : (looking : Bool) (o : Option ℕ) (offset count dim dtype : ℕ) (kept : Kept) → looking ≡ true → (k : ℕ) → indexAnswer o ≡ IndexPlace k
-    → KeptAt offset count dim dtype k ≡ lookedOf looking o offset count dim dtype kept
+pub asked-so : (looking : Bool) (o : Option ℕ) (r : Index) → looking ≡ true → r ≡ indexAnswer o → r ≡ indexAnswer (askedOf looking o)
+unfolding askedOf
+asked-so looking o r e p = rw e p
+
+pub looked-past : (o : Option ℕ) (offset count dim dtype : ℕ) (kept : Kept) → indexAnswer o ≡ NoIndex → kept ≡ lookedOf o offset count dim dtype kept
 unfolding lookedOf
-looked-here looking o offset count dim dtype kept e k p = rw (e, was-place o k p)
+looked-past o offset count dim dtype kept p = rw (was-nowhere o p)
+
+pub looked-here : (o : Option ℕ) (offset count dim dtype : ℕ) (kept : Kept) (k : ℕ) → indexAnswer o ≡ IndexPlace k
+    → KeptAt offset count dim dtype k ≡ lookedOf o offset count dim dtype kept
+unfolding lookedOf
+looked-here o offset count dim dtype kept k p = rw (was-place o k p)
 
 -- ---- the answer made: of a payload that is refused, and of a sound one by the place that was kept
 

@@ -2,11 +2,14 @@
 -- Assumes nothing.
 use Prim.Native.Nat.{ℕ, _+_, _-_, _*_, _^_, _≤_, _<_}
 use mathlib.Core.Path.{_≡_, refl, sym, ap, _∙_}
+use mathlib.Core.Logic.{⊎-elim}
 use native.Mathlib.Omega.{arith}
 use lib.ListN.{length}
 use Rattle.octets.specs.Round.{round64}
 use Rattle.octets.specs.RoundLaws.{round64-ge}
 use Rattle.vecseg.specs.Payload.{blockCount}
+use Rattle.vec_read.specs.lines.Counts.{count-fits}
+use Rattle.vec_read.specs.walk.Walk.{looked-past, looked-here}
 use Rattle.vec_read.specs.walk.Turn.{WalkAt, walk-first, turn-room, turn-offset, turn-bounds, turn-bad, turn-inside, turn-holds, turn-next, walk-more, walk-sum, walk-missing, walk-found}
 use borrow.Author.Needs.{needs}
 use Rattle.vec_read.proofs.walk.walk_blocks.Statement.{statement}
@@ -51,10 +54,8 @@ module _ (cb : tie.After-check-block Inv-loop μ-loop) where
   abbrev l : tie.At-loop Inv-loop μ-loop
   l = e1 .before .before .before
 
-  bounds : (1 ≤ u16 .before .u32-at3 .result) × (u16 .before .u32-at3 .result ≤ 4096) × (u16 .u16-at .result ≤ 1024)
-  bounds =
-      turn-bounds _ (call l .pre .0) _ _ _ _ _ _ _ _ (l .loop .inv .0) (more (e1 .before .before)) (sym (e1 .before .u32-at2 .ensures) ∙ e1 .if1 .left) _ _ _
-      (u16 .before .u32-at3 .ensures) (u16 .u16-at .ensures) refl
+  fits : u16 .before .u32-at3 .result ≤ length (call l .args .scratch .now)
+  fits = count-fits _ _ _ (call l .pre .1) _ (more (e1 .before .before)) _ (u16 .before .u32-at3 .ensures)
 
 -- where a block is sound: it lies in the payload
 inside : (k : tie.After-known-told2 Inv-loop μ-loop)
@@ -91,7 +92,8 @@ check-block-requires c κs =
     let l = e .before .before .before in
     let b = turn-bounds _ (call l .pre .0) _ _ _ _ _ _ _ _ (l .loop .inv .0) (omega arith) (sym (e .before .u32-at2 .ensures) ∙ e .if1 .left) _ _ _
     (u .before .u32-at3 .ensures) (u .u16-at .ensures) refl in
-    (b .0, (b .1, (omega (arith, b .1), b .2)))
+    let fits = count-fits _ _ _ (call l .pre .1) _ (more (e .before .before)) _ (u .before .u32-at3 .ensures) in
+    (b .0, (b .1, (omega (arith, fits, l .loop .inv .1 .1), b .2)))
 
 returns-2 : tie.Need-returns-2 Inv-loop μ-loop
 returns-2 c =
@@ -110,16 +112,19 @@ sum-on-requires c κs =
 look-requires : tie.Need-look-requires Inv-loop μ-loop
 look-requires c κs =
     let cb = c .before .before .before .before .before .before .before in
-    omega (arith, bounds cb .1, cb .check-block .kept .1 .1 .1 .1, l cb .loop .inv .1 .1, call (l cb) .pre .1)
+    omega (arith, fits cb, cb .check-block .kept .1 .1 .1 .1, l cb .loop .inv .1 .1)
 
 loop-again : tie.Need-loop-again Inv-loop μ-loop
 loop-again c =
-    let so = c .before .before .before in
+    let lk = c .before .before in
+    let so = lk .before .before in
     let k = so .before in
     let cb = k .before .before .before .before .before in (
       turn-next _ (call (l cb) .pre .0) _ _ _ _ _ _ _ _ (l cb .loop .inv .0) (more (e1 cb .before .before)) (sym (e1 cb .before .u32-at2 .ensures) ∙ e1 cb .if1 .left) _ _ _
           (u16 cb .before .u32-at3 .ensures) (u16 cb .u16-at .ensures) refl _ _ (cb .check-block .ensures) _ (k .before .b2 .given .1) _ _ _ _
-          (c .round-up2 .ensures) (so .sum-on .ensures) (c .before .look .ensures),
+          (c .round-up2 .ensures) (so .sum-on .ensures)
+          (⊎-elim (λ w. w .3 ∙ looked-here _ _ _ _ _ _ _ (sym (lk .look .ensures) ∙ w .1 .given .1))
+          (λ w. w .2 ∙ looked-past _ _ _ _ _ _ (sym (lk .look .ensures) ∙ w .1 .given .1)) (c .before .match2 .came)),
       (l cb .loop .inv .1 .0, cb .check-block .kept .1 .1 .1 .1 .0 ∙ l cb .loop .inv .1 .1),
     )
 
@@ -137,7 +142,7 @@ returns-4 : tie.Need-returns-4 Inv-loop μ-loop
 returns-4 c =
     let sa = c .before .before in
     let l = sa .before .before .before in
-    walk-missing _ (call l .pre .0) _ _ _ _ _ _ _ _ (l .loop .inv .0) (omega arith) (sa .before .if2 .left) _ (sa .sum-all .ensures) (c .enum-told .given .1)
+    walk-missing _ (call l .pre .0) _ _ _ _ _ _ _ _ (l .loop .inv .0) (omega arith) (sa .before .if2 .left) _ (sa .sum-all .ensures) (c .enum-told2 .given .1)
 
 returns-5 : tie.Need-returns-5 Inv-loop μ-loop
 returns-5 c =
@@ -156,9 +161,9 @@ walk-blocks-spec =
     (λ c. omega (arith, lines (c .before .before .before .before))) (λ c. omega (arith, lines (c .before .before .before .before .before)))
     (λ c. let w = at-in c in omega arith) (λ c. let w = at-in c in omega arith) (search needs) check-block-requires
     (search needs) (search needs) returns-2 (search needs)
-    (λ c. omega (arith, inside c)) sum-on-requires look-requires
-    (λ c. omega (arith, inside (c .before .before .before)))
-    (λ c κs. omega (arith, inside (c .before .before .before)))
-    (λ c. omega (arith, inside (c .before .before .before .before), c .round-up2 .ensures))
+    (λ c. omega (arith, inside c)) sum-on-requires look-requires (search needs) (search needs)
+    (λ c. omega (arith, inside (c .before .before .before .before)))
+    (λ c κs. omega (arith, inside (c .before .before .before .before)))
+    (λ c. omega (arith, inside (c .before .before .before .before .before), c .round-up2 .ensures))
     (search needs) (search needs) loop-again (search needs) returns-3 sum-all-requires (search needs) (search needs) (search needs) returns-4
     (search needs) returns-5)
