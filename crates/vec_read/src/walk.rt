@@ -101,8 +101,8 @@ fn look(looking: bool, ids: &[u64], count: usize, id: u64) -> Index
 }
 
 // The blocks of a payload whose directory is good; each is handed over as the part of the payload from its place. Ids
-// may repeat, and the last copy counts. What is kept is written only where the id is found: written anew at each block,
-// it costs more than the block's other tests.
+// may repeat, and the last copy counts. A place is written only where the id is found: written anew behind each block,
+// it takes as long as all else that this loop does itself.
 fn walk_blocks(s: &[u8], id: u64, summed: bool, looking: bool, scratch: &mut [u64]) -> Searched
     requires { ⌜ (DirectoryGood (now s)) × (CountsFit (now s) (length (now scratch))) ⌝ }
     ensures { λ r. ⌜ r ≡ walkedOf summed looking (now (s .entry)) id ⌝ }
@@ -163,8 +163,8 @@ fn walk_blocks(s: &[u8], id: u64, summed: bool, looking: bool, scratch: &mut [u6
     }
 }
 
-// How many ids the short list of our own takes. Most blocks have no more, and a list for the largest block that may be
-// takes longer to clear than a small payload to check.
+// How many ids the short list of our own takes. A list for the largest block that may be takes longer to clear than a
+// small payload to check.
 const FEW: usize = 256;
 
 // The walk with a short list of our own for the ids of a block.
