@@ -163,8 +163,8 @@ fn walk_blocks(s: &[u8], id: u64, summed: bool, looking: bool, scratch: &mut [u6
     }
 }
 
-// How many ids the short list of our own takes. Most blocks have no more, and a list for the largest block that may be
-// takes longer to clear than a small payload to check.
+// How many ids the short list of our own takes. A list for the largest block that may be takes longer to clear than a
+// small payload to check.
 const FEW: usize = 256;
 
 // The walk with a short list of our own for the ids of a block.
