@@ -9,12 +9,10 @@ use super::crc;
 struct Multiple<const N: usize> {
     reach: usize,
     inner: [usize; N],
-    /// How many bytes wait for no other: the distance from the farthest place to the next.
-    free: usize,
 }
 
-const NEAR: Multiple<4> = Multiple { reach: 299, inner: [142, 134, 62, 21], free: 157 };
-const FAR: Multiple<2> = Multiple { reach: 5_275, inner: [4_508, 2_751], free: 767 };
+const NEAR: Multiple<4> = Multiple { reach: 299, inner: [142, 134, 62, 21] };
+const FAR: Multiple<2> = Multiple { reach: 5_275, inner: [4_508, 2_751] };
 
 /// Bytes that go into a window before it is brought to the front again.
 const PART: usize = 8_192;
@@ -22,20 +20,23 @@ const PART: usize = 8_192;
 /// Takes a part in behind the window at the front.
 #[inline(always)]
 fn run<const N: usize>(multiple: &Multiple<N>, window: &mut [u8], part: &[u8]) {
-    for (index, bytes) in part.chunks(multiple.free).enumerate() {
-        let at = index * multiple.free;
-        let (old, new) = window[at..].split_at_mut(multiple.reach);
-        let n = bytes.len();
-        let taps = multiple.inner.map(|place| &old[place..place + n]);
-        let (first, new) = (&old[..n], &mut new[..n]);
-        for i in 0..n {
-            let mut byte = bytes[i] ^ first[i];
-            for tap in taps {
-                byte ^= tap[i];
-            }
-            new[i] = byte;
-        }
+    let n = part.len();
+    let window = &mut window[..n + multiple.reach];
+    // Lengths that the compiler can see: then it tests no index, and knows how far apart the places are.
+    if let Ok(part) = <&[u8; PART]>::try_from(part) {
+        return (0..PART).for_each(|i| step(multiple, window, part, i));
     }
+    (0..n).for_each(|i| step(multiple, window, part, i));
+}
+
+/// One byte of a part.
+#[inline(always)]
+fn step<const N: usize>(multiple: &Multiple<N>, window: &mut [u8], part: &[u8], i: usize) {
+    let mut byte = part[i] ^ window[i];
+    for place in multiple.inner {
+        byte ^= window[i + place];
+    }
+    window[i + multiple.reach] = byte;
 }
 
 /// Takes all of the data into the window, whose first four bytes are the register, and leaves in
