@@ -2,7 +2,7 @@
 -- Assumes nothing.
 use Prim.Native.Nat.{ℕ, _+_, _^_, _<_}
 use mathlib.Core.Path.{_≡_, refl, sym, ap, _∙_}
-use mathlib.Core.List.{List, [], _++_}
+use mathlib.Core.List.{List, _++_}
 use native.Mathlib.Omega.{arith}
 use lib.Bits.{bitXor, xor-lt, xor-self, xor-zero-r}
 use lib.ListN.{take, drop}
@@ -19,7 +19,7 @@ unfoldable pub extended : ℕ → List ℕ → ℕ
 extended sum s = bitXor (crcFrom (bitXor sum 0xFFFF_FFFF) s) 0xFFFF_FFFF
 
 -- added twice, a number is gone
-pub xor-twice : (a b : ℕ) → bitXor (bitXor a b) b ≡ a
+xor-twice : (a b : ℕ) → bitXor (bitXor a b) b ≡ a
 xor-twice a b = xor-assoc a b b ∙ ap (λ (x : ℕ). bitXor a x) (xor-self b) ∙ xor-zero-r a
 
 -- behind nothing
@@ -27,13 +27,8 @@ pub extended-first : (s : List ℕ) → extended 0 s ≡ crcOf s
 unfolding extended crcOf
 extended-first s = refl
 
--- by nothing
-pub extended-none : (sum : ℕ) → extended sum [] ≡ sum
-unfolding extended crcFrom
-extended-none sum = xor-twice sum ones
-
 -- a list, and another behind it
-pub extended-append : (sum : ℕ) (s t : List ℕ) → extended (extended sum s) t ≡ extended sum (s ++ t)
+extended-append : (sum : ℕ) (s t : List ℕ) → extended (extended sum s) t ≡ extended sum (s ++ t)
 unfolding extended
 extended-append sum s t =
     ap (λ (x : ℕ). bitXor (crcFrom x t) ones) (xor-twice (crcFrom (bitXor sum ones) s) ones)

@@ -129,7 +129,7 @@ product-power n x h =
     ∙ ap₂ (λ (a b : ℕ). bitXor a b) (bits-zero poly 32) (ap (λ (w : ℕ). bits poly n w) o)
     ∙ xor-zero-l (bits poly n x)
 
-pub power-lt : (n : ℕ) → power n < 2 ^ 32
+power-lt : (n : ℕ) → power n < 2 ^ 32
 unfolding power
 power-lt n = bits-lt n unit (omega arith)
 
@@ -138,7 +138,7 @@ power-on : (m n : ℕ) → bits poly n (power m) ≡ power (m + n)
 unfolding power
 power-on m n = sym (bits-add poly m n unit)
 
-pub power-add : (m n : ℕ) → product (power m) (power n) ≡ power (m + n)
+power-add : (m n : ℕ) → product (power m) (power n) ≡ power (m + n)
 power-add m n = product-power n (power m) (power-lt m) ∙ power-on m n
 
 -- the powers 8, 16, 32 and so on, each the square of the one before, computed

@@ -28,11 +28,11 @@ nearInner = 142 ∷ 134 ∷ 62 ∷ 21 ∷ []
 abbrev farInner : List ℕ
 farInner = 4508 ∷ 2751 ∷ []
 
-pub near-inside : Inside nearInner 299
+near-inside : Inside nearInner 299
 unfolding Inside
 near-inside = ((omega arith, omega arith), ((omega arith, omega arith), ((omega arith, omega arith), ((omega arith, omega arith), tt))))
 
-pub far-inside : Inside farInner 5275
+far-inside : Inside farInner 5275
 unfolding Inside
 far-inside = ((omega arith, omega arith), ((omega arith, omega arith), tt))
 

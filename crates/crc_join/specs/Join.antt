@@ -17,7 +17,7 @@ abbrev ones : ℕ
 ones = 0xFFFF_FFFF
 
 -- the register is linear
-pub crcFrom-xor : (c d : ℕ) (s : List ℕ) → crcFrom (bitXor c d) s ≡ bitXor (bits poly (8 * length s) c) (crcFrom d s)
+crcFrom-xor : (c d : ℕ) (s : List ℕ) → crcFrom (bitXor c d) s ≡ bitXor (bits poly (8 * length s) c) (crcFrom d s)
 unfolding crcFrom byteStep
 crcFrom-xor c d [] = ap (λ (x : ℕ). bitXor x d) (sym (bits-none poly c))
 crcFrom-xor c d (b ∷ s) =
@@ -27,7 +27,7 @@ crcFrom-xor c d (b ∷ s) =
     ∙ ap (λ (x : ℕ). bitXor x (crcFrom (byteStep d b) s)) (sym (bits-add poly 8 (8 * length s) c) ∙ ap (λ (x : ℕ). bits poly x c) n)
 
 -- a checksum goes on over a list whose own checksum is known
-pub extended-known : (sum : ℕ) (s : List ℕ) → extended sum s ≡ bitXor (bits poly (8 * length s) sum) (crcOf s)
+extended-known : (sum : ℕ) (s : List ℕ) → extended sum s ≡ bitXor (bits poly (8 * length s) sum) (crcOf s)
 unfolding extended crcOf
 extended-known sum s =
     ap (λ (x : ℕ). bitXor x ones) (crcFrom-xor sum ones s) ∙ xor-assoc (bits poly (8 * length s) sum) (crcFrom ones s) ones

@@ -34,7 +34,7 @@ computed : product (product (product (product (product (product (product (at 2) 
 unfolding product digits bit
 computed = refl
 
-pub zeros-power : zerosPower ≡ power (8 * 4052)
+zeros-power : zerosPower ≡ power (8 * 4052)
 zeros-power =
     sym computed
     ∙ power-more _ 2004 11 (lit< tt)
