@@ -59,7 +59,7 @@ pub fn put_bodies(
         let to = from + octets::le::u32_at(batch, line + 8) as usize;
         let sum = sums[j];
         offsets[kept + j] = at as u64;
-        at += segment::write::put_segment_by(
+        at += segment::write::put_segment(
             &mut buf[at..],
             kind,
             flags,

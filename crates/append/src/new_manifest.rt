@@ -29,7 +29,7 @@ pub fn put_manifest(
     let mut payload = [0u8; manifest::fields::MAX_PAYLOAD];
     let n = confirm::payload::put_payload(&mut payload, &buf[..at], offsets, states, at as u64, id);
     let sum = confirm::payload::payload_sum(&payload[..n]);
-    segment::write::put_segment_by(
+    segment::write::put_segment(
         &mut buf[at..],
         manifest::fields::KIND,
         0,

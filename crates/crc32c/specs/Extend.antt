@@ -4,12 +4,12 @@ use Prim.Native.Nat.{ℕ, _+_, _^_, _<_}
 use mathlib.Core.Path.{_≡_, refl, sym, ap, _∙_}
 use mathlib.Core.List.{List, _++_}
 use native.Mathlib.Omega.{arith}
-use lib.Bits.{bitXor, xor-lt, xor-self, xor-zero-r}
+use lib.Bits.{bitXor, xor-lt}
 use lib.ListN.{take, drop}
 use lib.Seq.{take-add}
 use Rattle.octets.specs.le.Le.{Bytes}
 use Rattle.crc32c.specs.Crc.{crcFrom, crcOf}
-use Rattle.crc32c.specs.Xor.{xor-assoc}
+use Rattle.crc32c.specs.Xor.{xor-twice}
 use Rattle.crc32c.specs.Words.{crcFrom-append, crcFrom-lt}
 
 abbrev ones : ℕ
@@ -17,10 +17,6 @@ ones = 0xFFFF_FFFF
 
 unfoldable pub extended : ℕ → List ℕ → ℕ
 extended sum s = bitXor (crcFrom (bitXor sum 0xFFFF_FFFF) s) 0xFFFF_FFFF
-
--- added twice, a number is gone
-xor-twice : (a b : ℕ) → bitXor (bitXor a b) b ≡ a
-xor-twice a b = xor-assoc a b b ∙ ap (λ (x : ℕ). bitXor a x) (xor-self b) ∙ xor-zero-r a
 
 -- behind nothing
 pub extended-first : (s : List ℕ) → extended 0 s ≡ crcOf s

@@ -9,11 +9,11 @@ use mathlib.Core.Logic.{⊎-elim}
 use native.Mathlib.Nat.{zero-add, eq-or-lt-of-le}
 use native.Mathlib.Numerals.{add-one}
 use native.Mathlib.Omega.{arith}
-use lib.Bits.{bitXor, xor-comm, xor-self, xor-zero-r}
+use lib.Bits.{bitXor}
 use lib.ListN.{length, getD, take, drop, set, length-drop, take-append-drop}
 use lib.Seq.{getD-set-same, getD-set-other, length-take-le, take-all, drop-drop}
 use Rattle.crc32c.specs.Crc.{poly, bits, crcFrom}
-use Rattle.crc32c.specs.Xor.{xor-assoc, xor-swap}
+use Rattle.crc32c.specs.Xor.{xor-assoc, xor-swap, xor-twice}
 use Rattle.crc32c.specs.Words.{crcFrom-byte, crcFrom-append}
 use Rattle.crc32c.specs.Sparse.{sum, sum-same, sum-xor, sum-bits, taps, Multiple, taps-back}
 use Rattle.crc32c.specs.Span.{span, span-same, span-next}
@@ -32,12 +32,8 @@ unfolding sum Inside
 sum-inside f g [] n h e = refl
 sum-inside f g (k ∷ l) n h e = ap₂ (λ (x y : ℕ). bitXor x y) (e k (h .0 .0) (h .0 .1)) (sum-inside f g l n (h .1) e)
 
--- what is added twice is not there
-cancel : (x y : ℕ) → bitXor (bitXor x y) y ≡ x
-cancel x y = xor-assoc x y y ∙ ap (λ (z : ℕ). bitXor x z) (xor-self y) ∙ xor-zero-r x
-
 peel : (x y e : ℕ) → bitXor (bitXor (bitXor x e) y) e ≡ bitXor x y
-peel x y e = ap (λ (z : ℕ). bitXor z e) (sym (xor-swap x y e)) ∙ xor-assoc x (bitXor y e) e ∙ ap (λ (z : ℕ). bitXor x z) (cancel y e)
+peel x y e = ap (λ (z : ℕ). bitXor z e) (sym (xor-swap x y e)) ∙ xor-assoc x (bitXor y e) e ∙ ap (λ (z : ℕ). bitXor x z) (xor-twice y e)
 
 -- a multiple by its farthest place, the length of the window, and those inside
 module _ (long : ℕ) (inner : List ℕ) (fits : Inside inner long) where
@@ -84,7 +80,7 @@ module _ (long : ℕ) (inner : List ℕ) (fits : Inside inner long) where
       ∙ ap₂ (λ (y z : ℕ). bits poly 8 (bitXor y z)) (held-same u w i i old)
       (ap₂ (λ (y z : ℕ). bitXor y z) (all ∙ ap (λ (y : ℕ). bitXor y others) ev) same
       ∙ peel (bitXor (getD s i 0) others) others x
-      ∙ cancel (getD s i 0) others))
+      ∙ xor-twice (getD s i 0) others))
       ∙ sym (crcFrom-byte (held (long ∷ inner) w i) s i hs)
 
   -- the window at a place brought to the front

@@ -1,7 +1,7 @@
 // CRC32C of a slice: a short one in four lanes of eight bytes, a longer one by windows. No table stands here. Eight
 // steps with a polynomial that is known are a loop that the compiler replaces by a look-up in a table of 256 numbers,
 // which it lays down once among the program's constants. A constant array of the source would be copied at each call.
-pub mod window;
+mod window;
 
 ghost use mathlib.Core.Path.{_≡_};
 ghost use Prim.Native.Nat.{_+_, _<_, _≤_, _^_};
@@ -12,7 +12,8 @@ ghost use Rattle.crc32c.specs.Words.{eight};
 ghost use Rattle.crc32c.specs.Ahead.{Ahead};
 ghost use Rattle.crc32c.specs.Extend.{extended};
 
-const POLYNOMIAL: u64 = 0x82F6_3B78;
+// Castagnoli's polynomial, its highest power in the lowest bit.
+pub const POLYNOMIAL: u64 = 0x82F6_3B78;
 
 // The register after some steps, and what it is after the last one with the polynomial added.
 struct Stepped {
@@ -170,7 +171,7 @@ fn lanes(c: u64, s: &[u8]) -> Entered
 }
 
 // The register after a slice, turned over, by the lanes.
-pub fn by_lanes(c: u64, s: &[u8]) -> u32
+fn by_lanes(c: u64, s: &[u8]) -> u32
     requires { ⌜ c < 2 ^ 32 ⌝ }
     ensures { λ r. ⌜ r ≡ bitXor (crcFrom c (now (s .entry))) 0xFFFF_FFFF ⌝ }
 {

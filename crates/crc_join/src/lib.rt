@@ -6,8 +6,6 @@ ghost use Rattle.crc32c.specs.Crc.{poly, bits, crcOf};
 ghost use Rattle.crc32c.specs.Extend.{extended};
 ghost use Rattle.crc32c.specs.Product.{product};
 
-const POLYNOMIAL: u64 = 0x82F6_3B78;
-
 // The registers of the powers 8, 16, 32 and so on, each the square of the one before.
 const POWERS: [u64; 32] = [
     0x80_0000,
@@ -52,7 +50,7 @@ pub fn times(x: u64, k: u64) -> u64
     let mut sum: u64 = 0;
     let mut i: usize = 0;
     while i < 32 {
-        sum = (sum / 2) ^ (sum % 2 * POLYNOMIAL) ^ (left % 2 * k);
+        sum = (sum / 2) ^ (sum % 2 * crc32c::POLYNOMIAL) ^ (left % 2 * k);
         left = left / 2;
         i += 1;
     }
@@ -60,7 +58,7 @@ pub fn times(x: u64, k: u64) -> u64
 }
 
 // The register after n zero bytes.
-pub fn zeros(c: u64, n: usize) -> u64
+fn zeros(c: u64, n: usize) -> u64
     requires { ⌜ (c < 2 ^ 32) × (n < 2 ^ 32) ⌝ }
     ensures { λ r. ⌜ (r ≡ bits poly (8 * n) c) × (r < 2 ^ 32) ⌝ }
 {

@@ -12,7 +12,7 @@ ghost use Prim.Native.Nat.{_+_, _≤_};
 ghost use lib.ListN.{length, take, drop, replicate};
 ghost use Rattle.octets.specs.le.Le.{leBytes};
 ghost use Rattle.crc32c.specs.Crc.{crcOf};
-ghost use Rattle.segment.specs.Header.{typeHeld, flagsHeld, contentHash};
+ghost use Rattle.segment.specs.Header.{typeHeld, flagsHeld};
 ghost use Rattle.segment.specs.Step.{wholeAt};
 
 // The bytes that a segment begins with, in file order.
@@ -51,20 +51,13 @@ pub fn flags_held(flags: u16) -> bool
     flags & 0x03C8 == flags
 }
 
-// The content hash that a checksum makes.
+// The content hash of a payload, by its checksum.
 pub fn hash_by(sum: u32) -> [u8; 16]
     ensures { λ r. ⌜ r ≡ leBytes 4 sum ++ replicate 12 0 ⌝ }
 {
     let mut hash = [0u8; 16];
     octets::le::put(&mut hash, 0, 4, sum as u64);
     hash
-}
-
-// The content hash of a payload.
-pub fn content_hash(payload: &[u8]) -> [u8; 16]
-    ensures { λ r. ⌜ r ≡ contentHash (now (payload .entry)) ⌝ }
-{
-    hash_by(crc32c::checksum(payload))
 }
 
 // Whether the link at a place is whole, where the checksum of its payload is known: a caller that has read the payload

@@ -43,7 +43,7 @@ pub fn put_header(
 
 // A segment at the front of a buffer that has room for it, and its size; the bytes behind it stay. The checksum of the
 // payload is known to the caller, which has read it already.
-pub fn put_segment_by(
+pub fn put_segment(
     buf: &mut [u8],
     kind: u8,
     flags: u16,
@@ -67,29 +67,4 @@ pub fn put_segment_by(
     octets::copy(&mut buf[body..], payload);
     octets::clear(&mut buf[padding..end]);
     end
-}
-
-// The same, where the checksum is not known yet.
-pub fn put_segment(
-    buf: &mut [u8],
-    kind: u8,
-    flags: u16,
-    id: u64,
-    timestamp: u64,
-    payload: &[u8],
-) -> usize
-    requires { ⌜ 64 + round64 (length (now payload)) ≤ length (now buf) ⌝ }
-    ensures answer { λ r. ⌜ r ≡ length (segment kind flags id timestamp (now (payload .entry))) ⌝ }
-    ensures buf { λ _. ⌜ now (buf .exit) ≡ over (now (buf .entry)) 0
-        (segment kind flags id timestamp (now (payload .entry))) ⌝ }
-{
-    put_segment_by(
-        buf,
-        kind,
-        flags,
-        id,
-        timestamp,
-        payload,
-        crc32c::checksum(payload),
-    )
 }

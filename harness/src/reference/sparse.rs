@@ -61,22 +61,28 @@ fn fold<const N: usize>(multiple: &Multiple<N>, window: &mut [u8], data: &[u8], 
     }
 }
 
+/// A message, as long as the window, with the register that the data leave. `ROOM` is the window and a part.
+#[inline(always)]
+fn message<const N: usize, const REACH: usize, const ROOM: usize>(
+    multiple: &Multiple<N>,
+    register: u32,
+    data: &[u8],
+) -> [u8; REACH] {
+    let mut window = [0u8; ROOM];
+    window[..4].copy_from_slice(&register.to_le_bytes());
+    let mut message = [0u8; REACH];
+    fold(multiple, &mut window, data, &mut message);
+    message
+}
+
 #[inline(never)]
 fn near(register: u32, data: &[u8]) -> u32 {
-    let mut window = [0u8; PART + NEAR.reach];
-    window[..4].copy_from_slice(&register.to_le_bytes());
-    let mut message = [0u8; NEAR.reach];
-    fold(&NEAR, &mut window, data, &mut message);
-    crc::sliced(0, &message)
+    crc::sliced(0, &message::<4, { NEAR.reach }, { PART + NEAR.reach }>(&NEAR, register, data))
 }
 
 #[inline(never)]
 fn far(register: u32, data: &[u8]) -> u32 {
-    let mut window = [0u8; PART + FAR.reach];
-    window[..4].copy_from_slice(&register.to_le_bytes());
-    let mut message = [0u8; FAR.reach];
-    fold(&FAR, &mut window, data, &mut message);
-    near(0, &message)
+    near(0, &message::<2, { FAR.reach }, { PART + FAR.reach }>(&FAR, register, data))
 }
 
 /// The checksum of all the bytes.

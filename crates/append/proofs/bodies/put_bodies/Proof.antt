@@ -106,31 +106,31 @@ slice-write-offsets c =
     let b = c .before .before .before .before .before in
     omega (arith, more b, bodies-count (s b .args .batch .now), l b .loop .inv .many, s b .pre .1 .0 .1)
 
-sub-put-segment-by : tie.Need-sub-put-segment-by Inv-loop μ-loop
-sub-put-segment-by c = omega (arith, at-room (c .before .before .before .before .before))
+sub-put-segment : tie.Need-sub-put-segment Inv-loop μ-loop
+sub-put-segment c = omega (arith, at-room (c .before .before .before .before .before))
 
-part-put-segment-by-start : tie.Need-part-put-segment-by-start Inv-loop μ-loop
-part-put-segment-by-start c = omega (arith, at-room (c .before .before .before .before .before))
+part-put-segment-start : tie.Need-part-put-segment-start Inv-loop μ-loop
+part-put-segment-start c = omega (arith, at-room (c .before .before .before .before .before))
 
-part-put-segment-by-end : tie.Need-part-put-segment-by-end Inv-loop μ-loop
-part-put-segment-by-end c = omega (arith, at-room (c .before .before .before .before .before))
+part-put-segment-end : tie.Need-part-put-segment-end Inv-loop μ-loop
+part-put-segment-end c = omega (arith, at-room (c .before .before .before .before .before))
 
-add-put-segment-by : tie.Need-add-put-segment-by Inv-loop μ-loop
-add-put-segment-by c =
+add-put-segment : tie.Need-add-put-segment Inv-loop μ-loop
+add-put-segment c =
     let b = c .before .before .before .before .before .before in
     omega (arith, more b, bodies-count (s b .args .batch .now), s b .pre .1 .0 .0)
 
-sub-put-segment-by-2 : tie.Need-sub-put-segment-by-2 Inv-loop μ-loop
-sub-put-segment-by-2 c = omega (arith, inside (c .before .before))
+sub-put-segment-2 : tie.Need-sub-put-segment-2 Inv-loop μ-loop
+sub-put-segment-2 c = omega (arith, inside (c .before .before))
 
-part-put-segment-by-start-2 : tie.Need-part-put-segment-by-start-2 Inv-loop μ-loop
-part-put-segment-by-start-2 c = omega (arith, inside (c .before .before))
+part-put-segment-start-2 : tie.Need-part-put-segment-start-2 Inv-loop μ-loop
+part-put-segment-start-2 c = omega (arith, inside (c .before .before))
 
-part-put-segment-by-end-2 : tie.Need-part-put-segment-by-end-2 Inv-loop μ-loop
-part-put-segment-by-end-2 c = omega (arith, inside (c .before .before))
+part-put-segment-end-2 : tie.Need-part-put-segment-end-2 Inv-loop μ-loop
+part-put-segment-end-2 c = omega (arith, inside (c .before .before))
 
-put-segment-by-requires : tie.Need-put-segment-by-requires Inv-loop μ-loop
-put-segment-by-requires c κs =
+put-segment-requires : tie.Need-put-segment-requires Inv-loop μ-loop
+put-segment-requires c κs =
     let ua3 = c .before .before .before in
     let ua2 = ua3 .before in
     let b = ua2 .before .before .before in
@@ -156,7 +156,7 @@ add-at c =
     let a = body-at batch (s b .pre .0 .0) j (omega (arith, more b, bodies-count batch)) in
     let r = put-room _ _ _ _ _ _ _ _ _ _ _ (l b .loop .inv) (more b) noBody (s b .pre .0 .1) in
     let z =
-    c .before .before .put-segment-by .ensures .0
+    c .before .before .put-segment .ensures .0
     ∙ body-length batch j a (ua2 .u32-at2 .result) (ua3 .u32-at3 .result) (ua2 .u32-at2 .ensures) (ua3 .u32-at3 .ensures)
     _ _ (s b .args .first-id + j) (s b .args .timestamp) in
     omega (arith, z, l b .loop .inv .same-length, s b .good)
@@ -175,14 +175,14 @@ loop-again c =
     let a = body-at batch (s .pre .0 .0) j (omega (arith, more b, n)) in
     let r = put-room _ _ _ _ _ _ _ _ _ _ _ (l b .loop .inv) (more b) noBody (s .pre .0 .1) in
     let z =
-    ps .put-segment-by .ensures .0
+    ps .put-segment .ensures .0
     ∙ body-length batch j a (ua2 .u32-at2 .result) (ua3 .u32-at3 .result) (ua2 .u32-at2 .ensures) (ua3 .u32-at3 .ensures)
     _ _ (s .args .first-id + j) (s .args .timestamp) in
     put-next _ _ _ _ _ _ _ _ _ _ _ (l b .loop .inv) (more b) noBody (s .pre .0 .1) _ _ _
     (body-segment batch j a (ua2 .u32-at2 .result) (ua3 .u32-at3 .result) (ua2 .u32-at2 .ensures) (ua3 .u32-at3 .ensures)
     _ _ (s .args .first-id + j) (s .args .timestamp) refl (ua2 .before .u16-at .ensures))
-    (ps .put-segment-by .ensures .0)
-    (back _ _ _ _ (ps .put-segment-by .ensures .1) (omega (arith, z, ps .put-segment-by .ensures .0))) (omega (arith, s .pre .1 .0 .1))
+    (ps .put-segment .ensures .0)
+    (back _ _ _ _ (ps .put-segment .ensures .1) (omega (arith, z, ps .put-segment .ensures .0))) (omega (arith, s .pre .1 .0 .1))
 
 returns : tie.Need-returns Inv-loop μ-loop
 returns c =
@@ -200,6 +200,6 @@ put-bodies-spec =
     (λ c. omega (arith, line-room c)) shared-slice-read-kind add-u16-at u16-at-requires add-u32-at
     u32-at-requires-2 (search needs) add-u32-at-2 u32-at-requires-3 (search needs)
     (λ c. omega (arith, inside c)) (search needs) shared-slice-read-sum add-offsets mul-offsets slice-write-offsets
-    sub-put-segment-by part-put-segment-by-start part-put-segment-by-end add-put-segment-by sub-put-segment-by-2
-    part-put-segment-by-start-2 part-put-segment-by-end-2 put-segment-by-requires add-at (search needs) (search needs) loop-again (search needs)
+    sub-put-segment part-put-segment-start part-put-segment-end add-put-segment sub-put-segment-2
+    part-put-segment-start-2 part-put-segment-end-2 put-segment-requires add-at (search needs) (search needs) loop-again (search needs)
     (search needs) returns)

@@ -60,11 +60,11 @@ payload-sum-requires c κs = payload-rooted _ _ _ _ _ _ (front (c .before .befor
 array-share-prefix-payload-2 : tie.Need-array-share-prefix-payload-2
 array-share-prefix-payload-2 c = omega (arith, fits (c .before .before .before .before))
 
-slice-aggregate-put-segment-by : tie.Need-slice-aggregate-put-segment-by
-slice-aggregate-put-segment-by c = counted (c .before .before .before .before .before)
+slice-aggregate-put-segment : tie.Need-slice-aggregate-put-segment
+slice-aggregate-put-segment c = counted (c .before .before .before .before .before)
 
-put-segment-by-requires : tie.Need-put-segment-by-requires
-put-segment-by-requires c κs =
+put-segment-requires : tie.Need-put-segment-requires
+put-segment-requires c κs =
     let pp = c .before .before .before .before .before in
     let s = s pp in
     let at = s .args .at in
@@ -77,7 +77,7 @@ returns : tie.Need-returns
 returns c =
     let pp = c .before .before .before .before .before .before .before .before in
     let r : round64 (length (wanted pp)) ≡ round64 (payloadLength (length (s pp .args .offsets .now))) = ap round64 (long pp) in
-    manifest-laid _ _ _ _ _ _ _ _ _ (front pp) (c .before .before .put-segment-by .ensures .1) (omega (arith, r, s pp .pre .1 .0 .0))
+    manifest-laid _ _ _ _ _ _ _ _ _ (front pp) (c .before .before .put-segment .ensures .1) (omega (arith, r, s pp .pre .1 .0 .0))
 
 pub put-manifest-spec : {M : Type 1} → statement M
 put-manifest-spec =
@@ -85,4 +85,4 @@ put-manifest-spec =
     (tie.spec
     (search needs) (search needs) slice-aggregate-put-payload-2 put-payload-requires array-share-prefix-payload
     slice-aggregate-payload-sum payload-sum-requires (search needs) (search needs) (search needs)
-    array-share-prefix-payload-2 slice-aggregate-put-segment-by put-segment-by-requires (search needs) returns)
+    array-share-prefix-payload-2 slice-aggregate-put-segment put-segment-requires (search needs) returns)

@@ -36,5 +36,5 @@ pub bring-down-spec : {M : Type 1} → statement M
 bring-down-spec =
     tie.close
     (tie.spec
-    Inv-loop μ-loop (search needs) loop-holds (search needs) (search needs) (search needs) (search needs)
-    (search needs) loop-again (search needs) returns)
+    Inv-loop μ-loop (λ c. omega arith) loop-holds (λ c. omega arith) (λ c. omega arith) (λ c. omega arith) (λ c. omega arith)
+    (λ c. omega arith) loop-again (λ c. omega arith) returns)
