@@ -18,6 +18,7 @@
  *  12  directory would have more than 1,024 entries
  *  13  an id would pass 2^64 - 1
  *  14  writer's input breaks a rule
+ *  15  payload of a segment of a reserved type, 0x0E to 0xEF
  */
 #ifndef RVF_H
 #define RVF_H
@@ -75,7 +76,8 @@ uint32_t rvf_open(const uint8_t *file, size_t len, uint64_t out[5]);
 uint32_t rvf_entry(const uint8_t *file, size_t len, uint64_t index, uint64_t out[8]);
 
 /* Where the payload of the live segment with an id lies in the file: a part of `file` itself. What lies inside is not
- * checked. out: where it begins, counted from `file`, and its length. Refuses 1, 2, 3, 4. */
+ * checked. out: where it begins, counted from `file`, and its length. Refuses 1, 2, 3, then 15 for a reserved type (such a
+ * segment is listed, copied by rvf_compact and may be retired), then 4. */
 uint32_t rvf_payload(const uint8_t *file, size_t len, uint64_t id, uint64_t out[2]);
 
 /* The vector with an id, out of the live VEC segments from the last in the directory to the first. Each is checked whole

@@ -208,7 +208,7 @@ fn refusals_carry_their_numbers() {
         assert_eq!(refusal.to_string(), format!("refused {}: {}", index + 1, refusal.meaning()));
         assert!(Refusal::ALL[..index].iter().all(|other| other.meaning() != refusal.meaning()));
     }
-    assert!([0, 15, 255, u32::MAX].into_iter().all(|number| Refusal::from_number(number).is_none()));
+    assert!([0, 16, 255, u32::MAX].into_iter().all(|number| Refusal::from_number(number).is_none()));
 }
 
 /// The README's table says of each number what the binding says.

@@ -92,6 +92,7 @@ fn stored_cases() {
         ("nested", sample("nested.rvf")),
         ("restarts", sample("restarts.rvf")),
         ("kinds", sample("kinds.rvf")),
+        ("partner", sample("partner.rvf")),
         ("flipped_padding", sample("flipped_padding.rvf")),
         ("flipped_header", sample("flipped_header.rvf")),
         ("flipped_manifest", sample("flipped_manifest.rvf")),

@@ -1,11 +1,11 @@
 //! The sample files: the library makes the same bytes again, and each shows what it is for.
 
-use rvf::{Dtype, Refusal};
+use rvf::{Body, Dtype, Refusal};
 use rvf_harness::calls::{Calls, Reference};
 use std::path::{Path, PathBuf};
 use std::process::Command;
 
-const NAMES: [&str; 11] = [
+const NAMES: [&str; 12] = [
     "worked.rvf",
     "clean.rvf",
     "torn.rvf",
@@ -14,6 +14,7 @@ const NAMES: [&str; 11] = [
     "nested.rvf",
     "restarts.rvf",
     "kinds.rvf",
+    "partner.rvf",
     "flipped_padding.rvf",
     "flipped_header.rvf",
     "flipped_manifest.rvf",
@@ -143,6 +144,31 @@ fn kinds_has_a_note_and_a_vector_of_each_dtype() {
     assert_eq!(dtypes, [Dtype::F32, Dtype::F32, Dtype::I8, Dtype::U8].map(Ok));
     let stdin = std::fs::read(root().join("crates/show_reading/stdin")).expect("the program has a case");
     assert_eq!(stdin, file);
+}
+
+/// Types that other writers use: the index is handed out like a note, the reserved one never; the
+/// manifest behind both is the file's.
+#[test]
+fn partner_has_a_metadata_index_and_a_reserved_type() {
+    let file = sample("partner.rvf");
+    let entries = [(0, 1, false), (1, 0x0D, false), (2, 0x20, false), (3, 5, false), (4, 1, false)];
+    assert_eq!(directory(&file), entries);
+    assert_eq!(rvf::payload(&file, 1), Ok(&b"station north: 7, 21\n"[..]));
+    assert_eq!(rvf::payload(&file, 2), Err(Refusal::ReservedType));
+    assert_eq!(position(&file, 7), Ok("2 102 202".to_string()));
+    let mut room = file.clone();
+    room.resize(2 * file.len(), 0);
+    let mut append = |kind, retire: &[u64]| {
+        let batch = rvf::batch(&[Body { kind, flags: 0, bytes: b"index" }]);
+        rvf::append(&mut room, file.len(), &batch, retire, 10_000).map(|appended| appended.count)
+    };
+    assert_eq!([append(0x20, &[]), append(0x0D, &[]), append(0x0D, &[2])], [Err(Refusal::Batch), Ok(7), Ok(7)]);
+    assert_eq!(rvf::payload(&room, 2), Err(Refusal::NotLive));
+    let compacted = rvf::compact(&file, &mut room).expect("every segment is whole");
+    room.truncate(compacted.end as usize);
+    let kinds: Vec<u8> = directory(&room).into_iter().map(|(_, kind, _)| kind).collect();
+    assert_eq!(kinds, [1, 0x0D, 0x20, 1]);
+    assert_eq!(rvf::payload(&room, 2), Err(Refusal::ReservedType));
 }
 
 /// One bit each: an earlier manifest is the file's, and what lies behind it is lost, not cut.

@@ -24,9 +24,12 @@ const KINDS: [&str; 11] = [
 ];
 /// Those that came with document 02.
 const LATER: [&str; 4] = ["compact", "crc32c", "varint_read", "varint_write"];
-/// The set of the newest request, and that of document 01, which goes on to hold.
-const NEWEST: &str = "../../shared/vectors/02-L01-s11.txt";
+/// The set of the newest request, and that of document 01, which goes on to hold but for the
+/// lines that a request has changed.
+const NEWEST: &str = "../../shared/vectors/02-L02-s4.txt";
 const FIRST: &str = "../../shared/vectors/01.txt";
+/// By line number: 591, a chain with a reserved type, which §4 no longer stops at.
+const CHANGED: [usize; 1] = [591];
 
 fn read(path: &str) -> Option<String> {
     let path = Path::new(env!("CARGO_MANIFEST_DIR")).join(path);
@@ -79,10 +82,10 @@ fn subset_has_every_kind_of_answer() {
         numbers.collect::<std::collections::BTreeSet<_>>().into_iter().collect::<Vec<_>>()
     };
     assert_eq!(answers("append"), [0, 1, 2, 5, 6, 7, 9, 10, 11, 12, 13]);
-    assert_eq!(answers("compact"), [0, 1, 2, 4, 9]);
+    assert_eq!(answers("compact"), [0, 2, 4, 9]);
     assert_eq!(answers("component"), [0, 2, 4, 5, 6, 7, 8]);
     assert_eq!(answers("vector"), [0, 2, 4, 5, 6, 7, 8, 9]);
-    assert_eq!(answers("payload"), [0, 2, 3, 4]);
+    assert_eq!(answers("payload"), [0, 1, 2, 3, 4, 15]);
     assert_eq!(answers("open"), [0, 1, 2]);
     assert_eq!(answers("entry"), [0, 2, 255]);
     assert_eq!(answers("vec_check"), [0, 5, 6, 7]);
@@ -95,10 +98,18 @@ fn subset_has_every_kind_of_answer() {
 
 #[test]
 fn whole_sets_where_they_exist() {
-    for (path, later) in [(FIRST, &[][..]), (NEWEST, &LATER)] {
-        match read(path) {
-            Some(text) => run_all(path, &text, later),
-            None => println!("no {path} beside this checkout"),
+    match read(NEWEST) {
+        Some(text) => run_all(NEWEST, &text, &LATER),
+        None => println!("no {NEWEST} beside this checkout"),
+    }
+    match read(FIRST) {
+        Some(text) => {
+            let changed = vectors::run(&text, &Reference).differences;
+            let lines = CHANGED.map(|line| format!("line {line}: "));
+            assert!(changed.len() == lines.len() && changed.iter().zip(&lines).all(|(one, line)| one.starts_with(line)), "{changed:?}");
+            let kept = text.lines().enumerate().filter(|(index, _)| !CHANGED.contains(&(index + 1)));
+            run_all(FIRST, &kept.map(|(_, line)| line).collect::<Vec<_>>().join("\n"), &[]);
         }
+        None => println!("no {FIRST} beside this checkout"),
     }
 }

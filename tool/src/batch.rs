@@ -1,7 +1,7 @@
 //! The form of a batch, with the reason why one does not keep it. The store's library says
 //! that a batch breaks a rule; this says which, and where.
 
-use crate::walk::{allowed_type, le16, le32, FLAGS};
+use crate::walk::{le16, le32, reserved_type, FLAGS};
 use rvf::{BATCH_LIMIT, MANIFEST};
 use std::ops::Range;
 
@@ -56,8 +56,9 @@ fn judge(line: &[u8], offset: usize, length: usize) -> Result<Body, (usize, Stri
     if kind == MANIFEST {
         return Err((0, "the type is 5: an append writes the manifest itself".to_string()));
     }
-    if !allowed_type(kind) {
-        return Err((0, format!("the type 0x{kind:02x} is not allowed")));
+    if kind == 0 || reserved_type(kind) {
+        let why = if kind == 0 { "no segment has it" } else { "0x0e to 0xef are reserved" };
+        return Err((0, format!("the type 0x{kind:02x} is not allowed: {why}")));
     }
     if line[1] != 0 {
         return Err((1, "must be zero".to_string()));

@@ -1,11 +1,11 @@
 //! What is wrong with a file. A fault makes calls refuse, or answer from before batches that
-//! are lost; a remark does neither.
+//! are lost; a remark does neither, but for a reserved type, whose payload never leaves.
 
 use crate::absence::Absence;
 use crate::lost::Loss;
 use crate::manifests::{doubt, Doubt};
 use crate::room::{back, Room};
-use crate::walk::{type_name, walk, Link, Walk};
+use crate::walk::{reserved_type, type_name, walk, Link, Walk};
 use rvf::{Entry, Manifest, OpenRefused, Refusal};
 
 #[derive(Clone, Copy, Debug, PartialEq, Eq)]
@@ -46,6 +46,11 @@ pub struct Checked {
 }
 
 impl Checked {
+    /// Whether the segment with an id has a reserved type, which no batch brings.
+    pub fn reserved(&self, id: u64) -> bool {
+        self.walk.links.iter().any(|link| link.id == id && reserved_type(link.kind))
+    }
+
     pub fn count(&self, weight: Weight) -> usize {
         self.findings.iter().filter(|finding| finding.weight == weight).count()
     }
@@ -103,6 +108,7 @@ fn of_directory(file: &[u8], links: &[Link], entries: &[Entry]) -> Vec<Finding> 
         } else {
             let effect = search.effect(link, damage);
             findings.extend(damage.map(|refusal| about(link, "live", Weight::Fault, refusal, effect)));
+            findings.extend(reserved_type(link.kind).then(|| carried(link)));
         }
     }
     findings
@@ -123,7 +129,11 @@ impl Search {
             return String::new();
         };
         let number = refusal.number();
-        let payload = if refusal == Refusal::ContentHash { "reading its payload refuses 4" } else { "" };
+        let payload = match refusal {
+            Refusal::ContentHash if reserved_type(link.kind) => "compacting the file refuses 4",
+            Refusal::ContentHash => "reading its payload refuses 4",
+            _ => "",
+        };
         if link.kind != rvf::VEC {
             return payload.to_string();
         }
@@ -150,6 +160,13 @@ fn about(link: &Link, state: &str, weight: Weight, refusal: Refusal, effect: Str
     let what = format!("segment {} ({}, {state}): {}", link.id, type_name(link.kind), broken(refusal));
     let refused = (weight == Weight::Fault).then_some(refusal);
     Finding { weight, offset: link.offset, segment: Some(link.id), refusal: refused, what, effect }
+}
+
+/// A live segment of a type that this store knows nothing of.
+fn carried(link: &Link) -> Finding {
+    let what = format!("segment {} (reserved, live): its type 0x{:02x} is reserved", link.id, link.kind);
+    let effect = "reading its payload refuses 15; a compaction copies it, and it may be retired".to_string();
+    Finding { weight: Weight::Remark, offset: link.offset, segment: Some(link.id), refusal: None, what, effect }
 }
 
 pub fn broken(refusal: Refusal) -> &'static str {

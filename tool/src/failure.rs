@@ -5,7 +5,7 @@ use rvf::Refusal;
 use std::io::{self, ErrorKind};
 use std::path::Path;
 
-/// The exit statuses; 1 to 14 are the numbers of the refusals.
+/// The exit statuses; 1 to 15 are the numbers of the refusals.
 pub const DONE: u8 = 0;
 pub const USAGE: u8 = 64;
 pub const FAULTS: u8 = 65;

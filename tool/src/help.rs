@@ -27,7 +27,7 @@ nothing to do with each other: 'rvf list' shows those of the segments.
 --json, anywhere, prints one JSON value instead of text; -q (--quiet) prints nothing on standard
 output. A value may follow its option as a word or behind '='. Behind -- no word is an option.
 
-Exit status: 0 done; 1 to 14 the number of a refusal; 64 wrong words; 65 faults, or lost batches;
+Exit status: 0 done; 1 to 15 the number of a refusal; 64 wrong words; 65 faults, or lost batches;
 66 an input cannot be read; 73 done, but standard output failed; 74 reading or writing failed;
 75 another append or compaction holds the file.
 ";

@@ -7,7 +7,7 @@ use crate::files::too_long;
 use crate::lost::loss;
 use crate::quote::quoted;
 use crate::room::kept;
-use crate::walk::{type_name, walk, Link};
+use crate::walk::{reserved_type, type_name, walk, Link};
 use rvf::{Entry, Refusal};
 use std::path::Path;
 
@@ -26,6 +26,7 @@ pub fn reading(path: &Path, file: &[u8], target: Target, refusal: Refusal) -> Fa
         (Refusal::FileTooLong, _) => too_long(path, file.len() as u64),
         (Refusal::NoManifest, _) => absent(path, file, refused),
         (Refusal::NotLive, Target::Segment(id)) => not_live(path, file, id, refused),
+        (Refusal::ReservedType, Target::Segment(id)) => reserved(path, file, id, refused),
         (Refusal::NoVector, Target::Vector(id) | Target::Component { id, .. }) => {
             no_vector(path, file, id, target, refused)
         }
@@ -52,7 +53,11 @@ pub fn compacting(path: &Path, file: &[u8], refusal: Refusal) -> Failure {
     };
     let (append, retire) = mending(path, damaged.iter().map(|link| link.id));
     let why = format!("{}{more}", bad(first, refusal));
-    let next = format!("append the batch again: '{append}', or only retire what is bad: '{retire}'; then compact");
+    let next = if damaged.iter().all(|link| reserved_type(link.kind)) {
+        format!("no batch brings a reserved type: retire it: '{retire}'; then compact")
+    } else {
+        format!("append the batch again: '{append}', or only retire what is bad: '{retire}'; then compact")
+    };
     Refused::of(path, refusal).why(why).next(next).into()
 }
 
@@ -88,6 +93,18 @@ fn not_live(path: &Path, file: &[u8], id: u64, refused: Refused) -> Refused {
         listed
     };
     refused.why(why).next(next)
+}
+
+/// A segment of a type that this store knows nothing of is carried, not handed out.
+fn reserved(path: &Path, file: &[u8], id: u64, refused: Refused) -> Refused {
+    let path = quoted(path);
+    let why = entry(file, id).map(|entry| {
+        let Entry { kind, length, offset, .. } = entry;
+        format!("segment {id} ({length} bytes) at byte {offset} is of type 0x{kind:02x}")
+    });
+    refused
+        .why(why.unwrap_or_default())
+        .next(format!("'rvf list {path}' lists it, a compaction copies it, 'rvf retire {path} {id}' retires it"))
 }
 
 fn no_vector(path: &Path, file: &[u8], id: u64, target: Target, refused: Refused) -> Refused {

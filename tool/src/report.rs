@@ -82,6 +82,9 @@ fn next(path: &Path, checked: &Checked) -> String {
         return String::new();
     }
     let (append, retire) = mending(path, ids.iter().copied());
+    if ids.iter().all(|&id| checked.reserved(id)) {
+        return format!("next: no batch brings a reserved type: retire it: '{retire}', or take a copy from elsewhere\n");
+    }
     format!(
         "next: append the batch again and retire what is bad in one step: '{append}'\n      \
          or only retire it: '{retire}'; older vectors with the same ids are answered from then on\n"

@@ -11,9 +11,9 @@ use crate::manifests::ENTRIES;
 use crate::pieces::{find, Found, Piece};
 use crate::rebuild::rebuilt;
 use crate::refusals::{reading, Target};
-use crate::walk::type_name;
+use crate::walk::{content_hash, type_name, HEADER};
 use crate::Answer;
-use rvf::{Refusal, FILE_LIMIT};
+use rvf::{Entry, Refusal, FILE_LIMIT};
 use std::fmt::Write;
 use std::path::Path;
 use std::time::Duration;
@@ -67,10 +67,15 @@ fn must_be_right(to: &Path, new: &[u8], found: &Found, id: u64) -> Result<(), Fa
         return Err(Refused::of(to, Refusal::FileTooLong).why(why).into());
     }
     let entries = rvf::entries(new).map_err(|refusal| Failure::from(Refused::of(to, refusal)))?;
+    // The payload of a reserved type is not handed out; its hash is looked at here.
+    let whole = |entry: &Entry| match rvf::payload(new, entry.id) {
+        Err(Refusal::ReservedType) => entry.hash == content_hash(&new[entry.offset as usize + HEADER..][..entry.length as usize]),
+        answer => answer.is_ok(),
+    };
     let same = entries.iter().zip(&found.kept).all(|(entry, piece)| {
         let fields = (entry.id, entry.kind, entry.flags, entry.retired, entry.hash, entry.length);
         fields == (piece.id, piece.kind, piece.flags, piece.retired, piece.hash, piece.length as u64)
-            && (piece.retired || rvf::payload(new, piece.id).is_ok())
+            && (piece.retired || whole(entry))
     });
     let right = same && entries.len() == count && rvf::open(new).is_ok_and(|manifest| manifest.id == id);
     if right {

@@ -165,8 +165,9 @@ pub fn segment_at(file: &[u8], at: usize, before: Option<u64>) -> Result<Link, S
     Ok(Link { offset: at, end, id, length, kind: header[5], flags: le16(header, 6) })
 }
 
-pub fn allowed_type(kind: u8) -> bool {
-    matches!(kind, 0x01..=0x0C | 0xF0..=0xFF)
+/// Types whose segments are passed and listed, but never handed out and never taken in a batch.
+pub fn reserved_type(kind: u8) -> bool {
+    matches!(kind, 0x0E..=0xEF)
 }
 
 /// The fields that have fixed or limited values, in the order in which they stand.
@@ -178,7 +179,7 @@ fn check_fields(header: &[u8; HEADER]) -> Result<(), Stop> {
     if version != 1 {
         return Err(Stop::Version(version));
     }
-    if !allowed_type(kind) {
+    if kind == 0 {
         return Err(Stop::Type(kind));
     }
     let flags = le16(header, 6);
@@ -216,8 +217,10 @@ pub fn le64(bytes: &[u8], at: usize) -> u64 {
 
 /// The name of a segment's type.
 pub fn type_name(kind: u8) -> &'static str {
-    const NAMES: [&str; 12] = [
+    const NAMES: [&str; 13] = [
         "VEC", "INDEX", "OVERLAY", "JOURNAL", "MANIFEST", "QUANT", "META", "HOT", "SKETCH", "WITNESS", "PROFILE", "CRYPTO",
+        "METAIDX",
     ];
-    NAMES.get(usize::from(kind).wrapping_sub(1)).copied().unwrap_or("EXTENSION")
+    let unnamed = if reserved_type(kind) { "reserved" } else { "EXTENSION" };
+    NAMES.get(usize::from(kind).wrapping_sub(1)).copied().unwrap_or(unnamed)
 }

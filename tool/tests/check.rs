@@ -25,7 +25,6 @@ fn every_reason_to_stop() {
         (3, 0xFF, Stop::Magic { found: [0x52, 0x56, 0x46, 0xAC] }),
         (4, 3, Stop::Version(2)),
         (5, 1, Stop::Type(0)),
-        (5, 0x0C, Stop::Type(0x0D)),
         (6, 1, Stop::Flags(1)),
         (7, 4, Stop::Flags(0x0400)),
         (8, 3, Stop::Id { id: 1, before: 1 }),

@@ -95,6 +95,22 @@ fn kinds() -> Result<Vec<u8>, Refusal> {
     append(&[], &[note(b"one of each kind\n"), vec(&floats), vec(&signed), vec(&unsigned)], &[], 7_000)
 }
 
+/// A file as another writer leaves it: positions, a metadata index (type 0x0D) and a segment of a
+/// type that is reserved here (0x20); then positions appended behind it.
+fn partner() -> Result<Vec<u8>, Refusal> {
+    let index = Body { kind: 0x0D, flags: 0, bytes: b"station north: 7, 21\n" };
+    let mut file = append(&[], &[vec(&positions(&[7, 21], 1.0)?), index, note(&[0xC0; 96])], &[], 8_000)?;
+    // No batch brings a reserved type: it is written over the third segment's, in its header and
+    // in its entry, and the manifest gets the hash of what it holds then.
+    let (third, manifest) = (rvf::entries(&file)?[2], rvf::open(&file)?.offset as usize);
+    let payload = manifest + 64..file.len();
+    file[third.offset as usize + 5] = 0x20;
+    file[payload.start + 8 + 48 * 2 + 40] = 0x20;
+    let sum = rvf::crc32c(&file[payload]);
+    file[manifest + 40..manifest + 44].copy_from_slice(&sum.to_le_bytes());
+    append(&file, &[vec(&positions(&[7], 2.0)?)], &[], 9_000)
+}
+
 /// The clean file with one bit flipped: in the padding behind the note, in the header of the
 /// second batch's vectors, in the newest manifest's entry for the first segment.
 fn flipped(clean: &[u8], at: usize, bit: u8) -> Vec<u8> {
@@ -114,6 +130,7 @@ fn main() -> Result<(), Box<dyn std::error::Error>> {
         ("nested.rvf", nested(&clean)?),
         ("restarts.rvf", restarts()?),
         ("kinds.rvf", kinds()?),
+        ("partner.rvf", partner()?),
         ("flipped_padding.rvf", flipped(&clean, 4_692, 2)),
         ("flipped_header.rvf", flipped(&clean, 4_423, 7)),
         ("flipped_manifest.rvf", flipped(&clean, 9_344 + 64 + 8 + 41, 0)),

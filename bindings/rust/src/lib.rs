@@ -47,6 +47,6 @@ pub fn crc32c(bytes: &[u8]) -> u32 {
 fn accepted(number: u32) -> Result<(), Refusal> {
     match number {
         0 => Ok(()),
-        other => Err(Refusal::from_number(other).expect("the library answers 0 to 14")),
+        other => Err(Refusal::from_number(other).expect("the library answers 0 to 15")),
     }
 }

@@ -100,7 +100,8 @@ pub fn list(file: &[u8]) -> String {
 }
 
 /// The payload of the live segment with an id: a part of the file itself. Its hash
-/// agrees; what lies inside is not checked.
+/// agrees; what lies inside is not checked. One of a reserved type, 0x0E to 0xEF, is not
+/// handed out.
 pub fn payload(file: &[u8], id: u64) -> Result<&[u8], Refusal> {
     let mut out = [0; 2];
     accepted(unsafe { sys::rvf_payload(file.as_ptr(), file.len(), id, &mut out) })?;

@@ -20,11 +20,12 @@ pub enum Refusal {
     DirectoryFull = 12,
     IdsUsedUp = 13,
     Input = 14,
+    ReservedType = 15,
 }
 
 impl Refusal {
     /// All of them, in the order of their numbers, from 1 on.
-    pub const ALL: [Refusal; 14] = [
+    pub const ALL: [Refusal; 15] = [
         Refusal::FileTooLong,
         Refusal::NoManifest,
         Refusal::NotLive,
@@ -39,13 +40,14 @@ impl Refusal {
         Refusal::DirectoryFull,
         Refusal::IdsUsedUp,
         Refusal::Input,
+        Refusal::ReservedType,
     ];
 
     pub fn number(self) -> u32 {
         self as u32
     }
 
-    /// The refusal with a number; none for 0, which is acceptance, and above 14.
+    /// The refusal with a number; none for 0, which is acceptance, and above 15.
     pub fn from_number(number: u32) -> Option<Refusal> {
         Refusal::ALL.get((number as usize).checked_sub(1)?).copied()
     }
@@ -66,6 +68,7 @@ impl Refusal {
             Refusal::DirectoryFull => "the directory would have more than 1,024 entries",
             Refusal::IdsUsedUp => "an id would pass 2^64 - 1",
             Refusal::Input => "what is to be written breaks a rule",
+            Refusal::ReservedType => "the segment's type is reserved (0x0E to 0xEF): its payload is not handed out",
         }
     }
 }

@@ -13,6 +13,9 @@ fn line_held(line: &[u8], at: usize) -> bool
     if !segment::kind_held(line[0]) {
         return false;
     }
+    if segment::kind_reserved(line[0]) {
+        return false;
+    }
     if line[0] == manifest::fields::KIND {
         return false;
     }

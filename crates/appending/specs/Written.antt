@@ -40,7 +40,7 @@ line-body at x s e =
     let place = and-split _ _ (zeros .0) in
     let flags = and-split _ _ (place .0) in
     let kinds = and-split _ _ (and-split _ _ (flags .0) .0) in
-    record { kind-held = kinds .0; no-manifest = not-true (eqb (getD x 0 0) manifestKind) (kinds .1); flags-held = flags .1 }
+    record { kind-held = and-split _ _ (kinds .0) .0; no-manifest = not-true (eqb (getD x 0 0) manifestKind) (kinds .1); flags-held = flags .1 }
 
 lines-bodies : (n at : ℕ) (lines : List ℕ) (end : ℕ) (s : List ℕ) → linesHeld n at lines end ≡ true → All BodyHeld (bodiesFrom n at lines s)
 unfolding linesHeld bodiesFrom All

@@ -8,7 +8,7 @@ use lib.ListN.{length, take, drop, getD}
 use Rattle.octets.specs.Zero.{allZero}
 use Rattle.octets.specs.le.Le.{leAt}
 use Rattle.answers.specs.limits.Limits.{maxBodies, maxBatch}
-use Rattle.segment.specs.Header.{typeHeld, flagsHeld}
+use Rattle.segment.specs.Header.{typeHeld, typeReserved, flagsHeld}
 use Rattle.manifest.specs.Payload.{manifestKind}
 
 -- what a batch says of a body: its segment's type and flags, and its bytes
@@ -26,9 +26,9 @@ lineSize = 16
 abbrev pub lineLength : List ℕ → ℕ
 lineLength x = leAt 4 x 8
 
--- 'Types as sound headers allow, but never 0x05'
+-- 'Types as sound headers allow, but never 0x05', and of those '0x0E to 0xEF .. never' (document 02, §4): 0x01 to 0x0D and 0xF0 to 0xFF but 0x05
 unfoldable pub bodyKindHeld : ℕ → Bool
-bodyKindHeld kind = typeHeld kind && not (eqb kind manifestKind)
+bodyKindHeld kind = typeHeld kind && not (typeReserved kind) && not (eqb kind manifestKind)
 
 -- the line at the front of some bytes, whose body is to begin at `at`
 unfoldable pub lineHeld : ℕ → List ℕ → Bool

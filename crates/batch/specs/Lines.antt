@@ -3,7 +3,7 @@
 -- Assumes nothing.
 use Prim.Native.Nat.{ℕ, zero, suc, _+_, _-_, _*_, _≤_, _<_}
 use mathlib.Core.Path.{_≡_, refl, sym, ap, _∙_}
-use mathlib.Core.Bool.{Bool, true, false, _&&_, and-false}
+use mathlib.Core.Bool.{Bool, true, false, not, _&&_, and-false}
 use mathlib.Core.List.{List, []}
 use native.Mathlib.Nat.{add-zero}
 use native.Mathlib.Omega.{arith}
@@ -16,7 +16,7 @@ use Rattle.octets.specs.ZeroLaws.{and-split}
 use Rattle.octets.specs.Parts.{part-front}
 use Rattle.octets.specs.le.Le.{leAt}
 use Rattle.answers.specs.limits.Limits.{maxBodies, maxBatch}
-use Rattle.segment.specs.Header.{typeHeld, flagsHeld}
+use Rattle.segment.specs.Header.{typeHeld, typeReserved, flagsHeld}
 use Rattle.batch.specs.Form.{Body, lineLength, bodyKindHeld, lineHeld, linesHeld, bodyCount, bodiesAt, batchHeld, bodiesFrom, bodiesOf}
 
 -- ---- a line at the front of longer bytes is its 16 bytes
@@ -39,9 +39,13 @@ module _ (at : ℕ) (x : List ℕ) where
   unfolding lineHeld bodyKindHeld
   line-kind e = rw e
 
+  pub line-reserved : typeReserved (getD x 0 0) ≡ true → false ≡ lineHeld at x
+  unfolding lineHeld bodyKindHeld
+  line-reserved e = rw (e, and-false (typeHeld (getD x 0 0)))
+
   pub line-manifest : getD x 0 0 ≡ 5 → false ≡ lineHeld at x
   unfolding lineHeld bodyKindHeld
-  line-manifest e = rw (eq-eqb (getD x 0 0) 5 e, and-false (typeHeld (getD x 0 0)))
+  line-manifest e = rw (eq-eqb (getD x 0 0) 5 e, and-false (typeHeld (getD x 0 0) && not (typeReserved (getD x 0 0))))
 
   pub line-zero : (getD x 1 0 ≡ 0 → ⊥) → false ≡ lineHeld at x
   unfolding lineHeld
@@ -58,11 +62,11 @@ module _ (at : ℕ) (x : List ℕ) where
       rw (ne-eqb (leAt 4 x 4) at (λ e. n (r-is ∙ e)), and-false (bodyKindHeld (getD x 0 0) && eqb (getD x 1 0) 0 && flagsHeld (leAt 2 x 2)))
 
   -- all but the last hold, and the last decides
-  pub line-holds : (r : Bool) → typeHeld (getD x 0 0) ≡ true → (getD x 0 0 ≡ 5 → ⊥) → getD x 1 0 ≡ 0 → flagsHeld (leAt 2 x 2) ≡ true → leAt 4 x 4 ≡ at
-      → r ≡ allZero (take 4 (drop 12 x)) → r ≡ lineHeld at x
+  pub line-holds : (r : Bool) → typeHeld (getD x 0 0) ≡ true → typeReserved (getD x 0 0) ≡ false → (getD x 0 0 ≡ 5 → ⊥) → getD x 1 0 ≡ 0
+      → flagsHeld (leAt 2 x 2) ≡ true → leAt 4 x 4 ≡ at → r ≡ allZero (take 4 (drop 12 x)) → r ≡ lineHeld at x
   unfolding lineHeld bodyKindHeld
-  line-holds r kind other zero-is flags offset last =
-      last ∙ rw (kind, ne-eqb (getD x 0 0) 5 other, eq-eqb (getD x 1 0) 0 zero-is, flags, eq-eqb (leAt 4 x 4) at offset)
+  line-holds r kind free other zero-is flags offset last =
+      last ∙ rw (kind, free, ne-eqb (getD x 0 0) 5 other, eq-eqb (getD x 1 0) 0 zero-is, flags, eq-eqb (leAt 4 x 4) at offset)
 
   -- a line that has the form says where its body begins
   pub line-begins : lineHeld at x ≡ true → leAt 4 x 4 ≡ at

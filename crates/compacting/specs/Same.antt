@@ -12,7 +12,7 @@ use borrow.Author.Tests.{eqb-true, eq-eqb, ne-eqb}
 use Rattle.answers.specs.limits.Limits.{maxFile}
 use Rattle.segment.specs.chain.Chain.{All, Found}
 use Rattle.segment.specs.chain.Laws.{all-map}
-use Rattle.segment.specs.Header.{Link, size, whole}
+use Rattle.segment.specs.Header.{Link, size, typeReserved, whole}
 use Rattle.segment.specs.Chained.{Rising}
 use Rattle.manifest.specs.Payload.{manifestKind}
 use Rattle.manifest.specs.Opening.{opened}
@@ -219,11 +219,13 @@ with-unplaced id (l ∷ ls) = rw (with-unplaced id ls) (pick (eqb (l .id) id))
 part-unplaced : (o : Option Link) → withoutPlace (partOf (unplacedLink o)) ≡ withoutPlace (partOf o)
 unfolding partOf unplacedLink withoutPlace whole movedTo
 part-unplaced none = refl
-part-unplaced (some l) = pick (whole l)
+part-unplaced (some l) = pick (typeReserved (l .kind)) (whole l)
   where
-    pick : (b : Bool) → withoutPlace (cond b (Handed 64 (l .payload)) (NotHanded 4)) ≡ withoutPlace (cond b (Handed (l .offset + 64) (l .payload)) (NotHanded 4))
-    pick true = refl
-    pick false = refl
+    pick : (k b : Bool) → withoutPlace (cond k (NotHanded 15) (cond b (Handed 64 (l .payload)) (NotHanded 4)))
+        ≡ withoutPlace (cond k (NotHanded 15) (cond b (Handed (l .offset + 64) (l .payload)) (NotHanded 4)))
+    pick true b = refl
+    pick false true = refl
+    pick false false = refl
 
 -- ---- the answers of a file that opens
 

@@ -10,8 +10,8 @@ ghost use Rattle.reading.specs.Part.{placeOf};
 use opening::FileManifest;
 use reading::PayloadPlace;
 
-// The live segment with an id in the directory of the manifest at an offset: 3 where there is none, 4 where the hash
-// differs.
+// The live segment with an id in the directory of the manifest at an offset: 3 where there is none, 15 where its type
+// is reserved, 4 where the hash differs.
 fn find_in(file: &[u8], offsets: &[u64], manifest: usize, count: usize, id: u64) -> PayloadPlace
     requires { ⌜ most ≤ length (now offsets) ⌝ }
     requires { ⌜ Indexed (now file) (now offsets) ⌝ }
@@ -34,6 +34,9 @@ fn find_in(file: &[u8], offsets: &[u64], manifest: usize, count: usize, id: u64)
             i += 1;
             continue;
         }
+        if segment::kind_reserved(file[p + segment::fields::KIND]) {
+            return PayloadPlace::Refused(15);
+        }
         let length = octets::le::u64_at(file, p + segment::fields::LENGTH) as usize;
         if !segment::is_whole(file, p, length) {
             return PayloadPlace::Refused(4);
@@ -46,7 +49,7 @@ fn find_in(file: &[u8], offsets: &[u64], manifest: usize, count: usize, id: u64)
     PayloadPlace::Refused(3)
 }
 
-// Where the payload of the segment with an id lies: 1, 2, 3, 4. A damaged layout inside doesn't stop it.
+// Where the payload of the segment with an id lies: 1, 2, 3, 15, 4. A damaged layout inside doesn't stop it.
 pub fn payload_place(file: &[u8], id: u64) -> PayloadPlace
     ensures { λ r. ⌜ r ≡ placeOf (partIn (now (file .entry)) id) ⌝ }
 {

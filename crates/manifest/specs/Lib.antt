@@ -11,3 +11,5 @@ pub mod OpenOut
 pub mod SizedLaws
 pub mod PayloadLaws
 pub mod Made
+pub mod Former
+pub mod FormerLaws

@@ -7,7 +7,7 @@ use mathlib.Core.List.{List, [], _∷_}
 use lib.Dec.{eqb, ltb}
 use Rattle.answers.specs.Write.{writeAnswer, writeBuffer}
 use Rattle.segment.specs.chain.Chain.{Found}
-use Rattle.segment.specs.Header.{Link, whole}
+use Rattle.segment.specs.Header.{Link, typeReserved, whole}
 use Rattle.manifest.specs.Opening.{atOpened}
 use Rattle.vecseg.specs.Payload.{checkOf}
 use Rattle.vecseg.specs.Find.{Place, findIn, vectorOf, valueAt}
@@ -23,10 +23,11 @@ pub data Part : Type 0 where
   Handed : ℕ → List ℕ → Part
   NotHanded : ℕ → Part
 
--- 3 where no live segment has the id, 4 where the hash differs; what lies inside plays no part
+-- 3 where no live segment has the id, 15 where its type is reserved (document 02, §4: 'after 3 and before 4'), 4 where the hash differs; what lies
+-- inside plays no part
 unfoldable pub partOf : Option Link → Part
 partOf none = NotHanded 3
-partOf (some l) = cond (whole l) (Handed (l .offset + 64) (l .payload)) (NotHanded 4)
+partOf (some l) = cond (typeReserved (l .kind)) (NotHanded 15) (cond (whole l) (Handed (l .offset + 64) (l .payload)) (NotHanded 4))
 
 unfoldable pub partFound : ℕ → Option (Found Link) → Part
 partFound id none = NotHanded 2

@@ -1,17 +1,44 @@
--- Where a payload lies, by cases, and what it is for a slice to be the part of a file at a place.
+-- What a payload call answers, by cases, where a payload lies, and what it is for a slice to be the part of a file at a place.
 -- Assumes nothing.
 use Prim.Native.Nat.{ℕ, _+_, _≤_, _<_}
 use mathlib.Core.Path.{_≡_, refl, sym, _∙_}
+use mathlib.Core.Bool.{true, false}
+use mathlib.Core.Option.{none, some}
 use mathlib.Core.List.{List, []}
 use native.Mathlib.Omega.{arith}
 use lib.ListN.{length}
 use denote.Ref.{RefT, now}
 use Rattle.answers.specs.Answer.{number}
-use Rattle.reading.specs.Answers.{Part, Handed, NotHanded, partIn}
+use Rattle.segment.specs.chain.Chain.{Found}
+use Rattle.segment.specs.Header.{Link, typeReserved, whole}
+use Rattle.reading.specs.Live.{live, withId}
+use Rattle.reading.specs.Answers.{Part, Handed, NotHanded, partOf, partFound, partIn}
 use Rattle.reading.specs.Placed.{part-in}
 use Rattle.reading.specs.declared.PayloadPlace.{PayloadPlace}
 use Rattle.reading.specs.declared.PayloadPlace.the-variants.{At, Refused}
 use Rattle.reading.specs.Part.{placeAnswer, placeOf, IsPart, HandsPart}
+
+-- ---- the payload call's numbers in their order: 3, then 15, then 4
+
+module _ (id : ℕ) (r : Found Link) where
+  pub part-missing : withId id (live r) ≡ none → partFound id (some r) ≡ NotHanded 3
+  unfolding partFound partOf
+  part-missing e = rw e
+
+  module _ (l : Link) (e : withId id (live r) ≡ some l) where
+    pub part-reserved : typeReserved (l .kind) ≡ true → partFound id (some r) ≡ NotHanded 15
+    unfolding partFound partOf
+    part-reserved k = rw (e, k)
+
+    pub part-torn : typeReserved (l .kind) ≡ false → whole l ≡ false → partFound id (some r) ≡ NotHanded 4
+    unfolding partFound partOf
+    part-torn k t = rw (e, k, t)
+
+    pub part-handed : typeReserved (l .kind) ≡ false → whole l ≡ true → partFound id (some r) ≡ Handed (l .offset + 64) (l .payload)
+    unfolding partFound partOf
+    part-handed k t = rw (e, k, t)
+
+-- ---- a place
 
 unfoldable pub placeNumber : PayloadPlace → ℕ
 placeNumber (At start len) = 0

@@ -15,7 +15,7 @@ use Rattle.answers.specs.limits.Limits.{maxFile}
 use Rattle.segment.specs.chain.Laws.{all-append, all-map}
 use Rattle.segment.specs.chain.Chain.{All, Found, openOf}
 use Rattle.segment.specs.chain.Last.{LastIn, last-stands}
-use Rattle.segment.specs.Header.{Link, whole}
+use Rattle.segment.specs.Header.{Link, typeReserved, whole}
 use Rattle.segment.specs.Laws.{linkFront, LinkRead, lies}
 use Rattle.segment.specs.Chained.{chain}
 use Rattle.manifest.specs.Payload.{confirmed}
@@ -118,10 +118,11 @@ unfolding partIn partFound partOf
 part-in f id start bytes e =
     go (opened f) refl (at-found (NotHanded 1) (Handed start bytes) (partFound id) f (λ q. let z : _≡_ {A = ℕ} 0 1 = cc in omega arith) e)
   where
-    made : (l : Link) (t : Bool) → InFile f l → cond t (Handed (l .offset + 64) (l .payload)) (NotHanded 4) ≡ Handed start bytes
+    made : (l : Link) (k t : Bool) → InFile f l → cond k (NotHanded 15) (cond t (Handed (l .offset + 64) (l .payload)) (NotHanded 4)) ≡ Handed start bytes
         → (start + length bytes ≤ length f) × (bytes ≡ take (length bytes) (drop start f))
-    made l false y q = absurd (let z : _≡_ {A = ℕ} 0 1 = cc in omega arith)
-    made l true y q =
+    made l true t y q = absurd (let z : _≡_ {A = ℕ} 0 1 = cc in omega arith)
+    made l false false y q = absurd (let z : _≡_ {A = ℕ} 0 1 = cc in omega arith)
+    made l false true y q =
         let a : l .offset + 64 ≡ start = cc in
         let b : l .payload ≡ bytes = cc in
         (rw (a, b) at (y .room), rw (a, b) at (y .bytes))
@@ -129,7 +130,7 @@ part-in f id start bytes e =
     picked : (r : Found Link) → opened f ≡ some r → (w : Option Link) → withId id (live r) ≡ w → partOf w ≡ Handed start bytes
         → (start + length bytes ≤ length f) × (bytes ≡ take (length bytes) (drop start f))
     picked r p none h q = absurd (let z : _≡_ {A = ℕ} 0 1 = cc in omega arith)
-    picked r p (some l) h q = made l (whole l) (all-with (InFile f) id (live r) l (live-in f r p) h) q
+    picked r p (some l) h q = made l (typeReserved (l .kind)) (whole l) (all-with (InFile f) id (live r) l (live-in f r p) h) q
 
     go : (o : Option (Found Link)) → opened f ≡ o → partFound id o ≡ Handed start bytes
         → (start + length bytes ≤ length f) × (bytes ≡ take (length bytes) (drop start f))

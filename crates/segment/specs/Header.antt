@@ -1,7 +1,7 @@
 -- A segment as document 01 has it ('The chain from byte 0'): a header of 64 bytes, the payload, zeros to a multiple of 64.
 -- The fields stand where document 002, section 3, has them. Definitions only.
 -- Assumes nothing.
-use mathlib.Core.Bool.{Bool, cond, _&&_, _||_, true}
+use mathlib.Core.Bool.{Bool, cond, _&&_, true}
 use mathlib.Core.Option.{Option, none, some}
 use mathlib.Core.List.{List, [], _∷_, _++_}
 use Prim.Native.Nat.{ℕ, _+_}
@@ -51,9 +51,13 @@ idAt f p = leAt 8 f (p + 0x08)
 abbrev pub lengthAt : List ℕ → ℕ → ℕ
 lengthAt f p = leAt 8 f (p + 0x10)
 
--- 'type 0x01 to 0x0C or 0xF0 to 0xFF'
+-- 'Sound headers shall allow 0x01 to 0xFF' (document 02, §4)
 unfoldable pub typeHeld : ℕ → Bool
-typeHeld t = (leb 0x01 t && leb t 0x0C) || (leb 0xF0 t && leb t 0xFF)
+typeHeld t = leb 0x01 t && leb t 0xFF
+
+-- '0x0E to 0xEF are walked past, listed in directories, never handed out and never taken in a sheet' (document 02, §4)
+unfoldable pub typeReserved : ℕ → Bool
+typeReserved t = leb 0x0E t && leb t 0xEF
 
 -- 'flags only from 0x03C8'
 unfoldable pub flagsHeld : ℕ → Bool

@@ -12,22 +12,22 @@ use Rattle.octets.specs.Over.{over}
 use Rattle.octets.specs.Zero.{allZero, sameBytes}
 use Rattle.octets.specs.le.Le.{leBytes}
 use Rattle.crc32c.specs.Crc.{crcOf}
-use Rattle.segment.specs.Header.{all, magic, typeHeld, flagsHeld, headSound, headTests, kindIn, flagsIn, idIn, contentHash}
+use Rattle.segment.specs.Header.{all, magic, typeHeld, typeReserved, flagsHeld, headSound, headTests, kindIn, flagsIn, idIn, contentHash}
 use Rattle.segment.specs.Tests.{all-fails}
 
 -- ---- types
 
-pub kind-low : (t : ℕ) → t < 1 → false ≡ typeHeld t
+pub kind-byte : (t : ℕ) → t < 256 → leb 0x01 t ≡ typeHeld t
 unfolding typeHeld
-kind-low t h = rw (lt-leb 0x01 t h, lt-leb 0xF0 t (omega arith))
+kind-byte t h = rw (le-leb t 0xFF (omega arith)) (sym (and-true (leb 0x01 t)))
 
-pub kind-named : (t : ℕ) → 1 ≤ t → t ≤ 0x0C → true ≡ typeHeld t
-unfolding typeHeld
-kind-named t h k = rw (le-leb 0x01 t h, le-leb t 0x0C k)
+pub reserved-low : (t : ℕ) → t < 0x0E → false ≡ typeReserved t
+unfolding typeReserved
+reserved-low t h = rw (lt-leb 0x0E t h)
 
-pub kind-extension : (t : ℕ) → 0x0C < t → t < 256 → leb 0xF0 t ≡ typeHeld t
-unfolding typeHeld
-kind-extension t h k = rw (le-leb 0x01 t (omega arith), lt-leb t 0x0C h, le-leb t 0xFF (omega arith)) (sym (and-true (leb 0xF0 t)))
+pub reserved-high : (t : ℕ) → 0x0E ≤ t → leb t 0xEF ≡ typeReserved t
+unfolding typeReserved
+reserved-high t h = rw (le-leb 0x0E t h)
 
 -- ---- the content hash, laid over zeros
 

@@ -1,5 +1,5 @@
 -- Chains of links, for any format of a link: the walk, links with a head that gives their size, the last confirmed link, walking by a loop, the places
--- of links, and searching from the end.
+-- of links, searching from the end, and a format that reads more.
 pub mod Chain
 pub mod Laws
 pub mod Framed
@@ -7,3 +7,4 @@ pub mod Last
 pub mod Places
 pub mod Search
 pub mod Walk
+pub mod Wider

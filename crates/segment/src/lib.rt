@@ -12,7 +12,7 @@ ghost use Prim.Native.Nat.{_+_, _≤_};
 ghost use lib.ListN.{length, take, drop, replicate};
 ghost use Rattle.octets.specs.le.Le.{leBytes};
 ghost use Rattle.crc32c.specs.Crc.{crcOf};
-ghost use Rattle.segment.specs.Header.{typeHeld, flagsHeld};
+ghost use Rattle.segment.specs.Header.{typeHeld, typeReserved, flagsHeld};
 ghost use Rattle.segment.specs.Step.{wholeAt};
 
 // The bytes that a segment begins with, in file order.
@@ -35,13 +35,18 @@ pub enum Step {
 pub fn kind_held(kind: u8) -> bool
     ensures { λ r. ⌜ r ≡ typeHeld kind ⌝ }
 {
-    if kind < 0x01 {
+    kind >= 0x01
+}
+
+// Whether a type is reserved: its segments are walked past and listed, but no payload of theirs leaves and no batch
+// brings one.
+pub fn kind_reserved(kind: u8) -> bool
+    ensures { λ r. ⌜ r ≡ typeReserved kind ⌝ }
+{
+    if kind < 0x0E {
         return false;
     }
-    if kind <= 0x0C {
-        return true;
-    }
-    kind >= 0xF0
+    kind <= 0xEF
 }
 
 // Whether a segment may have such flags.

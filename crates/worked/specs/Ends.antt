@@ -14,7 +14,7 @@ use Rattle.octets.specs.Zero.{allZero}
 use Rattle.octets.specs.le.Le.{leOf}
 use Rattle.answers.specs.Answer.{Accepted}
 use Rattle.segment.specs.chain.Chain.{walk, walkF, Found, upTo, lastConfirmed, openOf, scan}
-use Rattle.segment.specs.Header.{Link, typeHeld, flagsHeld}
+use Rattle.segment.specs.Header.{Link, typeHeld, typeReserved, flagsHeld}
 use Rattle.manifest.specs.Sized.{recordBy}
 use Rattle.manifest.specs.Payload.{payloadLength}
 use Rattle.manifest.specs.Opening.{opened}
@@ -29,7 +29,7 @@ use Rattle.worked.specs.Batches.{noBodies, oneBody}
 
 -- to unfold this is to unfold what the line names
 open-batch : Unit {0}
-unfolding leOf allZero typeHeld flagsHeld bodyKindHeld lineHeld linesHeld bodyCount batchHeld bodiesFrom bodiesOf
+unfolding leOf allZero typeHeld typeReserved flagsHeld bodyKindHeld lineHeld linesHeld bodyCount batchHeld bodiesFrom bodiesOf
 open-batch = tt
 
 nothing-opens : opened [] ≡ none

@@ -60,7 +60,7 @@ pub struct Batch {
 
 /// A body for a batch: vectors, now and then broken; noise otherwise.
 fn body(rng: &mut Rng, broken: bool) -> (u8, u16, Vec<u8>) {
-    let kind = if rng.once_in(2) { VEC } else { files::kind(rng) };
+    let kind = if rng.once_in(2) { VEC } else { files::body_kind(rng) };
     let flags = files::flags(rng);
     if kind != VEC {
         let length = rng.pick(&[0, 1, 5, 63, 64, 65, 130]);
@@ -103,7 +103,7 @@ pub fn spoil(rng: &mut Rng, batch: &mut Vec<u8>, count: usize) {
     match rng.below(10) {
         0 => batch[0] = rng.pick(&[count as u8 + 1, (count as u8).wrapping_sub(1), 17, 255]),
         1 => batch[rng.range(1, 15)] ^= 1 << rng.below(8),
-        2 => batch[line] = rng.pick(&[0, MANIFEST, 0x0D, 0xEF, 0x80]),
+        2 => batch[line] = rng.pick(&[0, MANIFEST, 0x0E, 0xEF, 0x80]),
         3 => batch[line + 1] = rng.pick(&[1, 0x80]),
         4 => batch[line + 2 + rng.below(2)] ^= 1 << rng.below(8),
         5 => batch[line + 4 + rng.below(4)] ^= 1 << rng.below(8),

@@ -22,8 +22,14 @@ pub fn fault(rng: &mut Rng) -> Fault {
     (place, bits)
 }
 
+/// A type that a file's segments may have, now and then a reserved one.
 pub fn kind(rng: &mut Rng) -> u8 {
-    rng.pick(&[1, 1, 1, 2, 3, 4, 6, 7, 7, 8, 9, 10, 11, 12, 0xF0, 0xF7, 0xFF])
+    if rng.once_in(6) { rng.pick(&[0x0E, 0x0F, 0x20, 0x80, 0xEF]) } else { body_kind(rng) }
+}
+
+/// A type that a batch may bring.
+pub fn body_kind(rng: &mut Rng) -> u8 {
+    rng.pick(&[1, 1, 1, 2, 3, 4, 6, 7, 7, 8, 9, 10, 11, 12, 13, 0xF0, 0xF7, 0xFF])
 }
 
 pub fn flags(rng: &mut Rng) -> u16 {

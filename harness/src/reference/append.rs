@@ -44,6 +44,7 @@ impl<'a> Bodies<'a> {
         for line in batch[HEAD..at].chunks_exact(LINE) {
             let kind = line[0];
             let form = segment::type_allowed(kind)
+                && !segment::type_reserved(kind)
                 && kind != MANIFEST
                 && line[1] == 0
                 && segment::flags_allowed(le16(line, 2))

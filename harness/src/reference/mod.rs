@@ -58,6 +58,7 @@ pub mod refusal {
     pub const DIRECTORY_FULL: u32 = 12;
     pub const IDS_USED_UP: u32 = 13;
     pub const INPUT: u32 = 14;
+    pub const RESERVED_TYPE: u32 = 15;
     /// No number of document 01: the index of an entry is at or above the count.
     pub const NO_ENTRY: u32 = 255;
 }

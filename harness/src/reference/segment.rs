@@ -16,7 +16,13 @@ pub const FLAGS: u16 = 0x03C8;
 /// Types that a sound header may have.
 #[inline]
 pub fn type_allowed(kind: u8) -> bool {
-    matches!(kind, 0x01..=0x0C | 0xF0..=0xFF)
+    kind != 0
+}
+
+/// Types that are walked past and listed, but never handed out and never taken in a batch.
+#[inline]
+pub fn type_reserved(kind: u8) -> bool {
+    matches!(kind, 0x0E..=0xEF)
 }
 
 /// Flags that a sound header may have.
@@ -162,13 +168,17 @@ mod tests {
 
     #[test]
     fn every_fixed_byte_of_the_first_header_matters() {
-        // Bytes that may change without the first link falling: id, timestamp and
-        // content hash. (The bit flipped here takes type and flags out of their sets.)
-        let free = |at: usize| matches!(at, 8..=15 | 24..=31 | 40..=55);
+        // Bytes that may change without the first link falling: type, id, timestamp and
+        // content hash. (The bit flipped here takes the flags out of their set; of the types
+        // only 0 is none.)
+        let free = |at: usize| matches!(at, 5 | 8..=15 | 24..=31 | 40..=55);
         for at in 0..HEADER {
             let mut file = two_segments();
             file[at] ^= 0x20;
             assert_eq!(chain(&file).count() == 0, !free(at), "byte {at}");
         }
+        let mut file = two_segments();
+        file[5] = 0;
+        assert_eq!(chain(&file).count(), 0);
     }
 }

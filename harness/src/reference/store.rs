@@ -2,7 +2,7 @@
 //! paragraphs): the payload, vector and component calls.
 
 use super::manifest::{self, Entry, Opened, ENTRY, LIVE};
-use super::refusal::{CONTENT_HASH, NOT_LIVE, NO_VECTOR};
+use super::refusal::{CONTENT_HASH, NOT_LIVE, NO_VECTOR, RESERVED_TYPE};
 use super::segment::{self, HEADER, VEC};
 use super::{le64, vecseg};
 
@@ -33,6 +33,9 @@ pub fn payload(file: &[u8], id: u64) -> Result<(usize, usize), u32> {
     let entry = Entry::read(&directory[ENTRY * index..][..ENTRY]);
     if entry.state != LIVE {
         return Err(NOT_LIVE);
+    }
+    if segment::type_reserved(entry.kind) {
+        return Err(RESERVED_TYPE);
     }
     if !segment::hash_equal(&entry.hash, entry.payload(file)) {
         return Err(CONTENT_HASH);

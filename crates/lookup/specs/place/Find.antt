@@ -2,7 +2,7 @@
 -- Assumes nothing.
 use Prim.Native.Nat.{ℕ, suc, _+_, _≤_, _<_}
 use mathlib.Core.Path.{_≡_, refl, sym, ap, subst, _∙_}
-use mathlib.Core.Bool.{true, false, cond}
+use mathlib.Core.Bool.{true, false}
 use mathlib.Core.Option.{none, some, Option·some-injective}
 use mathlib.Core.List.{List}
 use native.Mathlib.Omega.{arith}
@@ -11,7 +11,7 @@ use lib.ListN.{length, drop, getD}
 use Rattle.opening.specs.FileManifest.{manifestOf, refused-alike}
 use Rattle.opening.specs.declared.FileManifest.the-variants.{Refused as FileRefused}
 use Rattle.segment.specs.chain.Chain.{Found}
-use Rattle.segment.specs.Header.{Link, whole, noLink, idAt, lengthAt}
+use Rattle.segment.specs.Header.{Link, typeReserved, whole, noLink, idAt, kindAt, lengthAt}
 use Rattle.segment.specs.Step.{wholeAt}
 use Rattle.segment.specs.index.Offsets.{linkNo}
 use Rattle.manifest.specs.Opening.{opened, states, openedCase}
@@ -19,9 +19,10 @@ use Rattle.manifest.specs.OpeningLaws.{at-within}
 use Rattle.opening.specs.Indexed.{ManifestAt, EntryAt}
 use Rattle.reading.specs.Live.{liveOf, live, withId}
 use Rattle.reading.specs.LiveLaws.{with-retired, with-other, with-here, with-none}
-use Rattle.reading.specs.Answers.{Handed, NotHanded, partOf, partFound, partIn}
+use Rattle.reading.specs.Answers.{NotHanded, partFound, partIn}
 use Rattle.reading.specs.declared.PayloadPlace.the-variants.{At, Refused}
 use Rattle.reading.specs.Part.{placeOf}
+use Rattle.reading.specs.PartLaws.{part-missing, part-reserved, part-torn, part-handed}
 use Rattle.manifest.specs.Payload.{statePlace}
 
 -- the first i entries are passed
@@ -37,15 +38,15 @@ module _ (f : List ℕ) (id offset count : ℕ) (m : ManifestAt f offset count) 
   abbrev r : Found Link
   r = m .found
 
-  part-is : partIn f id ≡ partOf (withId id (live r))
-  unfolding partIn partFound
+  part-is : partIn f id ≡ partFound id (some r)
+  unfolding partIn
   part-is = at-within (NotHanded 1) (partFound id) f (m .within) ∙ ap (partFound id) (m .opens)
 
   pub find-last : (i : ℕ) → FindAt f id count i → count ≤ i → Refused 3 ≡ placeOf (partIn f id)
-  unfolding placeOf partOf
+  unfolding placeOf
   find-last i st h =
-      let e : withId id (live r) ≡ none = sym (st .same r (m .opens)) ∙ with-none id (r .before) (states r) i (omega (arith, m .count-is)) in
-      ap placeOf (sym (part-is ∙ ap partOf e))
+      ap placeOf
+      (sym (part-is ∙ part-missing id r (sym (st .same r (m .opens)) ∙ with-none id (r .before) (states r) i (omega (arith, m .count-is)))))
 
   module _ (i : ℕ) (offsets : List ℕ) (st : FindAt f id count i) (h : i < count) (a : EntryAt f offsets r offset i) where
     inside : i < length (r .before)
@@ -70,27 +71,33 @@ module _ (f : List ℕ) (id offset count : ℕ) (m : ManifestAt f offset count) 
     find-retired n = on (with-retired (r .before) (states r) i inside id (λ z. n (sym (a .state-is) ∙ z)))
 
     module _ (x : ℕ) (e : x ≡ idAt f (getD offsets i 0)) (q : x ≡ id) (z : getD f (statePlace offset i) 0 ≡ 0) where
-      here : partIn f id ≡ partOf (some (linkNo f i))
+      here : withId id (live r) ≡ some (linkNo f i)
       here =
-          part-is
-          ∙ ap partOf (sym (st .same r (m .opens)) ∙ with-here (r .before) (states r) i inside id (a .state-is ∙ z) (id-is ∙ sym e ∙ q) ∙ ap some (a .link-is))
+          sym (st .same r (m .opens)) ∙ with-here (r .before) (states r) i inside id (a .state-is ∙ z) (id-is ∙ sym e ∙ q) ∙ ap some (a .link-is)
 
-      -- the length that the code has read
-      module _ (n : ℕ) (n-is : n ≡ lengthAt f (getD offsets i 0)) where
+      kind-is : typeReserved (linkNo f i .kind) ≡ typeReserved (kindAt f (getD offsets i 0))
+      kind-is = ap typeReserved (a .numbered .kind-is)
+
+      pub find-reserved : typeReserved (kindAt f (getD offsets i 0)) ≡ true → Refused 15 ≡ placeOf (partIn f id)
+      unfolding placeOf
+      find-reserved k = ap placeOf (sym (part-is ∙ part-reserved id r (linkNo f i) here (kind-is ∙ k)))
+
+      -- n is the length that the code has read
+      module _ (k : typeReserved (kindAt f (getD offsets i 0)) ≡ false) (n : ℕ) (n-is : n ≡ lengthAt f (getD offsets i 0)) where
         whole-is : whole (linkNo f i) ≡ wholeAt f (getD offsets i 0) n
         whole-is = a .numbered .whole-is ∙ ap (wholeAt f (getD offsets i 0)) (a .numbered .length-is ∙ sym n-is)
 
         pub find-torn : wholeAt f (getD offsets i 0) n ≡ false → Refused 4 ≡ placeOf (partIn f id)
-        unfolding placeOf partOf
-        find-torn t = ap placeOf (sym (here ∙ ap (λ b. cond b (Handed (linkNo f i .offset + 64) (linkNo f i .payload)) (NotHanded 4)) (whole-is ∙ t)))
+        unfolding placeOf
+        find-torn t = ap placeOf (sym (part-is ∙ part-torn id r (linkNo f i) here (kind-is ∙ k) (whole-is ∙ t)))
 
         pub find-whole : wholeAt f (getD offsets i 0) n ≡ true → At (getD offsets i 0 + 64) n ≡ placeOf (partIn f id)
-        unfolding placeOf partOf
+        unfolding placeOf
         find-whole t =
+            let handed = part-is ∙ part-handed id r (linkNo f i) here (kind-is ∙ k) (whole-is ∙ t) in
             let o : linkNo f i .offset ≡ getD offsets i 0 = a .numbered .offset-is in
-            let k : length (linkNo f i .payload) ≡ n = a .numbered .length-is ∙ sym n-is in
-            sym (ap placeOf (here ∙ ap (λ b. cond b (Handed (linkNo f i .offset + 64) (linkNo f i .payload)) (NotHanded 4)) (whole-is ∙ t))
-            ∙ ap (λ (y : ℕ). At (y + 64) (length (linkNo f i .payload))) o ∙ ap (At (getD offsets i 0 + 64)) k)
+            let z : length (linkNo f i .payload) ≡ n = a .numbered .length-is ∙ sym n-is in
+            sym (ap placeOf handed ∙ ap (λ (y : ℕ). At (y + 64) (length (linkNo f i .payload))) o ∙ ap (At (getD offsets i 0 + 64)) z)
 
 -- ---- what opening refuses
 

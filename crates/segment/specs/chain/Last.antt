@@ -58,6 +58,32 @@ module _ {L : Type 0} (confirmed : List L → L → Bool) where
   unfolding lastConfirmed
   last-stands ls r e = ⊎-elim (λ n. absurd (Option·some-ne-none r (sym n))) (λ s. s) (stands [] ls none r e)
 
+  -- a confirmed link stands at the found one, or before it
+  pub record AtOrBehind (p : List L) (m : L) (o : Option (Found L)) : Type 0 where
+    pub found : Found L
+    pub is : o ≡ some found
+    pub between : List L
+    pub up-to : found .before ++ found .link ∷ [] ≡ p ++ m ∷ between
+
+  scan-behind : (p : List L) (m : L) (q ls ys zs : List L) (r : Found L) → q ≡ p ++ m ∷ ys → r .before ++ r .link ∷ [] ≡ p ++ m ∷ zs
+      → AtOrBehind p m (scan confirmed q ls (some r))
+  unfolding scan
+  scan-behind p m q [] ys zs r e f = record { found = r; is = refl; between = zs; up-to = f }
+  scan-behind p m q (l ∷ ls) ys zs r e f = go (confirmed q l) (λ x xs. scan-behind p m (q ++ l ∷ []) ls (ys ++ l ∷ []) xs x on)
+    where
+      on : q ++ l ∷ [] ≡ p ++ m ∷ (ys ++ l ∷ [])
+      on = ap (λ (x : List L). x ++ l ∷ []) e ∙ append-assoc p (m ∷ ys) (l ∷ [])
+
+      go : (b : Bool) → ((x : Found L) (xs : List L) → x .before ++ x .link ∷ [] ≡ p ++ m ∷ xs → AtOrBehind p m (scan confirmed (q ++ l ∷ []) ls (some x)))
+          → AtOrBehind p m (scan confirmed (q ++ l ∷ []) ls (cond b (some (record { before = q; link = l })) (some r)))
+      go true ih = ih (record { before = q; link = l }) (ys ++ l ∷ []) on
+      go false ih = ih r zs f
+
+  -- where some link is confirmed, the last confirmed one is it or stands behind it
+  pub last-behind : (p : List L) (m : L) (rest : List L) → confirmed p m ≡ true → AtOrBehind p m (lastConfirmed confirmed (p ++ m ∷ rest))
+  unfolding lastConfirmed scan
+  last-behind p m rest e = rw (scan-append [] p (m ∷ rest) none, e) (scan-behind p m (p ++ m ∷ []) rest [] [] (record { before = p; link = m }) refl refl)
+
   pub last-upTo : (ls : List L) → lastConfirmed confirmed (upTo confirmed (lastConfirmed confirmed ls)) ≡ lastConfirmed confirmed ls
   unfolding upTo lastConfirmed scan
   last-upTo ls = go (lastConfirmed confirmed ls) refl

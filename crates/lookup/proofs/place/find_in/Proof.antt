@@ -5,7 +5,7 @@ use Prim.Native.Nat.{_-_}
 use mathlib.Core.Path.{sym, _∙_}
 use native.Mathlib.Omega.{arith}
 use borrow.Author.Tests.{not-true, not-false}
-use Rattle.lookup.specs.place.Find.{FindAt, find-first, find-last, find-other, find-retired, find-torn, find-whole}
+use Rattle.lookup.specs.place.Find.{FindAt, find-first, find-last, find-other, find-retired, find-reserved, find-torn, find-whole}
 use borrow.Author.Needs.{needs}
 use Rattle.lookup.proofs.place.find_in.Statement.{statement}
 use Rattle.lookup.proofs.place.find_in.Tie as tie
@@ -80,44 +80,67 @@ loop-again-2 c =
     let b = c .before .before .before .before .before in
     find-retired _ _ _ _ (s b .pre .1 .1) _ _ (b .before .loop .inv) (omega arith) (entry b) (c .if2 .taken)
 
+-- The live segment with the id is found.
+module _ (e : tie.Else2 Inv-loop μ-loop) where
+  abbrev seen : tie.In-loop Inv-loop μ-loop
+  seen = e .before .before .before .before .before
+
+add-kind-reserved : tie.Need-add-kind-reserved Inv-loop μ-loop
+add-kind-reserved c = omega (arith, entry (seen c), s (seen c) .pre .1 .1 .within)
+
+shared-slice-read-kind-reserved : tie.Need-shared-slice-read-kind-reserved Inv-loop μ-loop
+shared-slice-read-kind-reserved c = omega (arith, entry (seen (c .before)))
+
+returns : tie.Need-returns Inv-loop μ-loop
+returns c =
+    let e2 = c .before .before .before in
+    let e1 = e2 .before .before in
+    let b = seen e2 in
+    find-reserved _ _ _ _ (s b .pre .1 .1) _ _ (b .before .loop .inv) (omega arith) (entry b) _ (e1 .before .u64-at .ensures) (e1 .if1 .left)
+    (e2 .if2 .left) (sym (c .before .kind-reserved .ensures) ∙ c .if3 .taken)
+
 add-u64-at-2 : tie.Need-add-u64-at-2 Inv-loop μ-loop
 add-u64-at-2 c =
-    let b = c .before .before .before .before .before in
+    let b = seen (c .before .before .before) in
     omega (arith, entry b, s b .pre .1 .1 .within)
 
 u64-at-requires-2 : tie.Need-u64-at-requires-2 Inv-loop μ-loop
 u64-at-requires-2 c κs =
-    let b = c .before .before .before .before .before in
+    let b = seen (c .before .before .before) in
     omega (arith, entry b, s b .pre .1 .1 .within)
 
 is-whole-requires : tie.Need-is-whole-requires Inv-loop μ-loop
-is-whole-requires c κs = omega (arith, entry (c .before .before .before .before .before .before) .numbered, c .u64-at2 .ensures)
-
-returns : tie.Need-returns Inv-loop μ-loop
-returns c =
-    let ua2 = c .before .before in
-    let e1 = ua2 .before .before .before in
-    let b = e1 .before .before .before in
-    find-torn _ _ _ _ (s b .pre .1 .1) _ _ (b .before .loop .inv) (omega arith) (entry b) _ (e1 .before .u64-at .ensures) (e1 .if1 .left)
-    (ua2 .before .if2 .left) _ (ua2 .u64-at2 .ensures)
-    (sym (c .before .is-whole .ensures) ∙ not-true _ (c .if3 .taken))
-
-add-t10 : tie.Need-add-t10 Inv-loop μ-loop
-add-t10 c =
-    let b = c .before .before .before .before .before .before .before .before in
-    omega (arith, entry b, s b .pre .1 .1 .within)
+is-whole-requires c κs = omega (arith, entry (seen (c .before .before .before .before)) .numbered, c .u64-at2 .ensures)
 
 returns-2 : tie.Need-returns-2 Inv-loop μ-loop
 returns-2 c =
     let ua2 = c .before .before in
-    let e1 = ua2 .before .before .before in
-    let b = e1 .before .before .before in
-    find-whole _ _ _ _ (s b .pre .1 .1) _ _ (b .before .loop .inv) (omega arith) (entry b) _ (e1 .before .u64-at .ensures) (e1 .if1 .left)
-    (ua2 .before .if2 .left) _ (ua2 .u64-at2 .ensures)
-    (sym (c .before .is-whole .ensures) ∙ not-false _ (c .if3 .left))
+    let e3 = ua2 .before in
+    let e2 = e3 .before .before .before in
+    let e1 = e2 .before .before in
+    let b = seen e2 in
+    find-torn _ _ _ _ (s b .pre .1 .1) _ _ (b .before .loop .inv) (omega arith) (entry b) _ (e1 .before .u64-at .ensures) (e1 .if1 .left)
+    (e2 .if2 .left) (sym (e3 .before .kind-reserved .ensures) ∙ e3 .if3 .left) _ (ua2 .u64-at2 .ensures)
+    (sym (c .before .is-whole .ensures) ∙ not-true _ (c .if4 .taken))
+
+add-t13 : tie.Need-add-t13 Inv-loop μ-loop
+add-t13 c =
+    let b = seen (c .before .before .before .before .before .before) in
+    omega (arith, entry b, s b .pre .1 .1 .within)
 
 returns-3 : tie.Need-returns-3 Inv-loop μ-loop
-returns-3 c = find-last _ _ _ _ (c .before .before .before .before .pre .1 .1) _ (c .before .loop .inv) (omega arith)
+returns-3 c =
+    let ua2 = c .before .before in
+    let e3 = ua2 .before in
+    let e2 = e3 .before .before .before in
+    let e1 = e2 .before .before in
+    let b = seen e2 in
+    find-whole _ _ _ _ (s b .pre .1 .1) _ _ (b .before .loop .inv) (omega arith) (entry b) _ (e1 .before .u64-at .ensures) (e1 .if1 .left)
+    (e2 .if2 .left) (sym (e3 .before .kind-reserved .ensures) ∙ e3 .if3 .left) _ (ua2 .u64-at2 .ensures)
+    (sym (c .before .is-whole .ensures) ∙ not-false _ (c .if4 .left))
+
+returns-4 : tie.Need-returns-4 Inv-loop μ-loop
+returns-4 c = find-last _ _ _ _ (c .before .before .before .before .pre .1 .1) _ (c .before .loop .inv) (omega arith)
 
 pub find-in-spec : {M : Type 1} → statement M
 find-in-spec =
@@ -125,5 +148,5 @@ find-in-spec =
     (tie.spec
     Inv-loop μ-loop loop-holds (λ c. omega (arith, entry c)) (λ c. omega (arith, entry (c .before))) add-u64-at
     u64-at-requires add-i (search needs) loop-again add-if2 mul-if2 add-if2-2 add-if2-3 shared-slice-read-if2
-    add-i-2 (search needs) loop-again-2 add-u64-at-2 u64-at-requires-2 is-whole-requires returns add-t10
-    returns-2 returns-3)
+    add-i-2 (search needs) loop-again-2 add-kind-reserved shared-slice-read-kind-reserved (search needs) returns
+    add-u64-at-2 u64-at-requires-2 is-whole-requires returns-2 add-t13 returns-3 returns-4)
