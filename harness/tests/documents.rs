@@ -6,10 +6,11 @@ use std::path::{Path, PathBuf};
 /// The lines to believe for the rules' calls and the claim together.
 const MOST_LINES: usize = 700;
 /// The files with a theorem that CLAIMS names: their proofs stand beside it.
-const THEOREMS: [&str; 5] = [
+const THEOREMS: [&str; 6] = [
     "crates/claim/specs/Theorem.antt",
     "crates/claim/specs/LaterHolds.antt",
     "crates/compacting/specs/Theorem.antt",
+    "crates/manifest/specs/FormerLaws.antt",
     "crates/reading/specs/ReadFrom.antt",
     "crates/worked/specs/Proved.antt",
 ];

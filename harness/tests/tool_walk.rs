@@ -1,7 +1,7 @@
 //! The command-line tool walks through a file in plain Rust, to say why the chain stops and
 //! why a manifest is not confirmed. Here its links, manifests and faults are compared with
-//! the reference: a fault is found exactly where a reading call refuses, but for the payload
-//! of an older manifest, or where batches are lost.
+//! the reference: a fault is found exactly where a reading call or a compaction refuses, but for
+//! the payload of an older manifest, or where batches are lost.
 
 use rvf_harness::gen::batches::{vector_file, vector_ids};
 use rvf_harness::gen::stores::{store, Wish};
@@ -40,14 +40,19 @@ fn searched_in_vain(file: &[u8]) -> Option<u32> {
     each.filter_map(Result::err).next()
 }
 
-/// The ids of the live segments, older manifests aside, whose payload is refused, by the reference.
+/// The ids of the live segments, older manifests aside, whose payload is refused by 4, by the
+/// reference; that of a reserved type never leaves, and a compaction refuses 4 in its place.
 fn refused_payloads(file: &[u8]) -> Vec<u64> {
     let Ok(opened) = manifest::open(file) else {
         return Vec::new();
     };
     let entries = manifest::directory(file, &opened).chunks_exact(manifest::ENTRY).map(manifest::Entry::read);
-    let segments = entries.filter(|entry| entry.kind != segment::MANIFEST).map(|entry| entry.id);
-    segments.filter(|&id| reading::payload(file, id) == Err(4)).collect()
+    let segments = entries.filter(|entry| entry.kind != segment::MANIFEST);
+    let refused = segments.filter(|entry| match reading::payload(file, entry.id) {
+        Err(15) => !segment::hash_equal(&entry.hash, entry.payload(file)),
+        answer => answer == Err(4),
+    });
+    refused.map(|entry| entry.id).collect()
 }
 
 /// What the check says, against what the calls do. Returns the number of a search.

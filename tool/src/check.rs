@@ -108,7 +108,7 @@ fn of_directory(file: &[u8], links: &[Link], entries: &[Entry]) -> Vec<Finding> 
         } else {
             let effect = search.effect(link, damage);
             findings.extend(damage.map(|refusal| about(link, "live", Weight::Fault, refusal, effect)));
-            findings.extend(reserved_type(link.kind).then(|| carried(link)));
+            findings.extend((damage.is_none() && reserved_type(link.kind)).then(|| carried(link)));
         }
     }
     findings
@@ -130,7 +130,7 @@ impl Search {
         };
         let number = refusal.number();
         let payload = match refusal {
-            Refusal::ContentHash if reserved_type(link.kind) => "compacting the file refuses 4",
+            Refusal::ContentHash if reserved_type(link.kind) => "compacting the file refuses 4; reading its payload refuses 15, damaged or not",
             Refusal::ContentHash => "reading its payload refuses 4",
             _ => "",
         };

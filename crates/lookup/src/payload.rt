@@ -45,7 +45,7 @@ pub struct HandedPart<'a> {
     pub part: &'a [u8],
 }
 
-// The payload of the segment with an id: 1, 2, 3, 4, else that part of the lent file itself.
+// The payload of the segment with an id: 1, 2, 3, 15, 4, else that part of the lent file itself.
 pub fn payload<'a>(file: &'a [u8], id: u64) -> HandedPart<'a>
     ensures { λ r. ⌜ (r .number ≡ number (placeAnswer (placeOf (partIn (now (file .entry)) id))))
         × HandsPart (r .part) (file .entry) (partIn (now (file .entry)) id) ⌝ }

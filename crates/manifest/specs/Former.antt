@@ -7,8 +7,7 @@ use mathlib.Core.Option.{Option, none, some}
 use mathlib.Core.List.{List, [], _∷_, _++_}
 use lib.Dec.{leb}
 use Rattle.segment.specs.chain.Chain.{All, Reader, Found, walk, openOf}
-use Rattle.segment.specs.Header.{Link, State, start, linkAt, size, after}
-use Rattle.segment.specs.Chained.{chain}
+use Rattle.segment.specs.Header.{Link, State, start, reader, linkAt, size, after}
 use Rattle.manifest.specs.Payload.{confirmed}
 use Rattle.manifest.specs.Opening.{opened}
 
@@ -36,7 +35,7 @@ formerOpened f = openOf formerReader confirmed start f
 -- a manifest stands behind the same links now, and is confirmed by them; opening finds it, or one behind it
 pub record StaysConfirmed (f : List ℕ) (before : List Link) (manifest : Link) : Type 0 where
   pub rest : List Link
-  pub stands : chain f ≡ before ++ manifest ∷ rest
+  pub stands : walk reader start f ≡ before ++ manifest ∷ rest
   pub holds : confirmed before manifest ≡ true
   pub found : Found Link
   pub opens : opened f ≡ some found

@@ -5,11 +5,11 @@ use mathlib.Core.Path.{_≡_, ap, _∙_}
 use mathlib.Core.Bool.{true}
 use mathlib.Core.Option.{Option, none, some}
 use mathlib.Core.List.{List, _∷_, _++_, append-assoc}
-use Rattle.segment.specs.chain.Chain.{Found, openOf, lastConfirmed}
+use Rattle.segment.specs.chain.Chain.{Found, walk, openOf, lastConfirmed}
 use Rattle.segment.specs.chain.Framed.{cond-some}
 use Rattle.segment.specs.chain.Last.{LastIn, last-stands, AtOrBehind, last-behind}
 use Rattle.segment.specs.chain.Wider.{walk-wider, walk-same}
-use Rattle.segment.specs.Header.{Link, start, linkAt, size, after}
+use Rattle.segment.specs.Header.{Link, start, reader, linkAt, size, after}
 use Rattle.segment.specs.Chained.{chain}
 use Rattle.manifest.specs.Payload.{confirmed}
 use Rattle.manifest.specs.Opening.{opened}
@@ -57,7 +57,7 @@ unfolding formerLink
 held-read o l e t = rw (e, t)
 
 -- a file that has none of the types that were shut out then
-pub opens-as-before : (f : List ℕ) → FormerTypes (chain f) → opened f ≡ formerOpened f
+pub opens-as-before : (f : List ℕ) → FormerTypes (walk reader start f) → opened f ≡ formerOpened f
 unfolding opened formerOpened openOf
 opens-as-before f t =
     ap (lastConfirmed confirmed)

@@ -8,7 +8,8 @@ ghost use Rattle.vecseg.specs.Vector.{vectorAnswer};
 use reading::ComponentBits;
 use reading::PayloadPlace;
 
-// Where the payload of the live segment with an id lies in the file: where it begins, and its length; or 1, 2, 3, 4.
+// Where the payload of the live segment with an id lies in the file: where it begins, and its length; or 1, 2, 3, 15,
+// 4.
 #[no_mangle]
 pub extern "C" fn rvf_payload(file: &[u8], id: u64, out: &mut [u64; 2]) -> u32
     ensures number { λ r. ⌜ r ≡ number (placeAnswer (placeOf (partIn (now (file .entry)) id))) ⌝ }

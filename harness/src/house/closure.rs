@@ -20,8 +20,14 @@ const THEOREMS: [Theorem; 4] = [
     ("reading", "ReadFrom", "vector-read"),
     ("worked", "Proved", "table"),
 ];
-const OF_REQUESTS: [Theorem; 3] =
-    [("compacting", "Theorem", "compacted"), ("claim", "LaterHolds", "later-appends"), ("claim", "LaterHolds", "starts-anew")];
+const OF_REQUESTS: [Theorem; 6] = [
+    ("compacting", "Theorem", "compacted"),
+    ("claim", "LaterHolds", "later-appends"),
+    ("claim", "LaterHolds", "starts-anew"),
+    ("manifest", "FormerLaws", "stays-confirmed"),
+    ("manifest", "FormerLaws", "found-stays"),
+    ("manifest", "FormerLaws", "opens-as-before"),
+];
 
 /// A file that a reviewer reads, by the lines to believe in it; and the laws that it holds besides.
 pub struct Reached {
