@@ -92,6 +92,27 @@ fn files_of_every_kind() {
     assert!(seen.0[1][0] > 200 && seen.0[1][2] > 200, "{:?}", seen.0);
 }
 
+/// Every type, live and retired, whole and damaged: the numbers come in the order 3, 15, 4. A manifest
+/// is never retired, so a directory that says so is none.
+#[test]
+fn every_type_of_a_payload() {
+    for (kind, state, bits) in (1..=255u8).flat_map(|kind| [(kind, 0, 0), (kind, 0, 1), (kind, 1, 0), (kind, 1, 1)]) {
+        let mut file = Builder::new(0, 7);
+        file.body(kind, 0, 1, b"body");
+        file.bytes[64] ^= bits;
+        file.links[0].1 = state;
+        file.manifest(0, 1, &[]);
+        let wanted = match (kind, state, bits) {
+            (5, 1, _) => 2,
+            (_, 1, _) => 3,
+            (0x0E..=0xEF, ..) => 15,
+            (_, _, 1) => 4,
+            _ => 0,
+        };
+        assert_eq!(same_payload(&file.bytes, 7), wanted, "type {kind}, state {state}, damage {bits}");
+    }
+}
+
 /// The file of `damage_in_order`: three segments that all hold id 5, the oldest also
 /// id 1, the middle one two blocks with id 5 in both.
 fn three_segments(rng: &mut Rng) -> Builder {
