@@ -15,6 +15,7 @@ use Rattle.manifest.specs.Opening.{opened}
 unfoldable pub formerType : ℕ → Bool
 formerType t = (leb 0x01 t && leb t 0x0C) || (leb 0xF0 t && leb t 0xFF)
 
+-- links of such types alone
 abbrev pub FormerTypes : List Link → Type 0
 FormerTypes ls = All (λ (l : Link). formerType (l .kind) ≡ true) ls
 
