@@ -90,11 +90,12 @@ uint32_t rvf_vector(const uint8_t *file, size_t len, uint64_t id, uint8_t *buffe
  * 8 also for an index at or above dim. */
 uint32_t rvf_component(const uint8_t *file, size_t len, uint64_t id, uint64_t index, uint64_t out[2]);
 
-/* A batch appended to the file that is the first n bytes of the buffer; the ids in `retire` become retired. The batch: body
- * count u32, 12 zero bytes; a line of 16 bytes for each body (type u8, zero u8, flags u16, offset u32 from the batch's start,
- * length u32, zero u32); then the bodies in line order, without gaps. out: the new end, which is the file's length from now on,
- * the new manifest's id, the number of its entries. Bytes before the old manifest's end and from the new end on stay. Refuses 9
- * (n above the buffer), 1, 2, 10, then 5, 6 or 7 of a vector body, 11, 12, 13, 1, 9. */
+/* A batch appended to the file that is the first n bytes of the buffer; the ids in `retire` become retired. The batch:
+ * body count u32, 12 zero bytes; a line of 16 bytes for each body (type u8, zero u8, flags u16, offset u32 from the
+ * batch's start, length u32, zero u32); then the bodies in line order, without gaps. Types are 0x01 to 0x0D and 0xF0 to
+ * 0xFF but 0x05. out: the new end, which is the file's length from now on, the new manifest's id, the number of its
+ * entries. Bytes before the old manifest's end and from the new end on stay. Refuses 9 (n above the buffer), 1, 2, 10,
+ * then 5, 6 or 7 of a vector body, 11, 12, 13, 1, 9. */
 uint32_t rvf_append(uint8_t *buffer, size_t len, uint64_t n, const uint8_t *batch, size_t batch_len, const uint64_t *retire,
                     size_t retire_len, uint64_t timestamp, uint64_t out[3]);
 

@@ -54,7 +54,7 @@ pub fn compacting(path: &Path, file: &[u8], refusal: Refusal) -> Failure {
     let (append, retire) = mending(path, damaged.iter().map(|link| link.id));
     let why = format!("{}{more}", bad(first, refusal));
     let next = if damaged.iter().all(|link| reserved_type(link.kind)) {
-        format!("no batch brings a reserved type: retire it: '{retire}'; then compact")
+        format!("no batch brings a reserved type, so retire what is bad: '{retire}'; then compact")
     } else {
         format!("append the batch again: '{append}', or only retire what is bad: '{retire}'; then compact")
     };

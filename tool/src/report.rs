@@ -83,7 +83,7 @@ fn next(path: &Path, checked: &Checked) -> String {
     }
     let (append, retire) = mending(path, ids.iter().copied());
     if ids.iter().all(|&id| checked.reserved(id)) {
-        return format!("next: no batch brings a reserved type: retire it: '{retire}', or take a copy from elsewhere\n");
+        return format!("next: no batch brings a reserved type, so retire what is bad: '{retire}', or take a copy from elsewhere\n");
     }
     format!(
         "next: append the batch again and retire what is bad in one step: '{append}'\n      \

@@ -45,7 +45,7 @@ fn damage_in_a_reserved_segment() {
     let file = text(&place.file);
     let ran = rvf(&["check", file]);
     let lines: Vec<&str> = ran.text().lines().skip(3).collect();
-    let next = format!("next: no batch brings a reserved type: retire it: 'rvf retire {file} 2', or take a copy from elsewhere");
+    let next = format!("next: no batch brings a reserved type, so retire what is bad: 'rvf retire {file} 2', or take a copy from elsewhere");
     let wanted = [
         "FAULT  byte 320: segment 2 (reserved, live): its content hash differs",
         "       compacting the file refuses 4; reading its payload refuses 15, damaged or not",
@@ -55,7 +55,7 @@ fn damage_in_a_reserved_segment() {
     assert_eq!((ran.status, &lines[..]), (65, &wanted[..]));
     assert_eq!(rvf(&["get", file, "--segment", "2"]).status, 15);
     let lines = why(&compact(&place, &[]), &place.file, 4);
-    let next = format!("next: no batch brings a reserved type: retire it: 'rvf retire {file} 2'; then compact");
+    let next = format!("next: no batch brings a reserved type, so retire what is bad: 'rvf retire {file} 2'; then compact");
     assert_eq!(lines, ["segment 2 (reserved) at byte 320: its content hash differs".to_string(), next]);
     assert!(bytes_of(&place.file) == bytes);
 }

@@ -58,7 +58,8 @@ pub fn vectors(input: &Vectors) -> Result<Vec<u8>, Refusal> {
     Ok(buffer)
 }
 
-/// A body of a batch: it becomes a segment.
+/// A body of a batch: it becomes a segment. Its type is one of 0x01 to 0x0D and 0xF0 to 0xFF, but
+/// not that of manifests.
 #[derive(Clone, Copy, Debug)]
 pub struct Body<'a> {
     pub kind: u8,

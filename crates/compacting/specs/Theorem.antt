@@ -29,7 +29,8 @@ use Rattle.manifest.specs.Opening.{opened, tried, foundCase, openedAnswer, open
 use Rattle.manifest.specs.OpeningLaws.{at-long, at-within, open-within}
 use Rattle.reading.specs.Live.{liveOf, live, withId}
 use Rattle.reading.specs.Placed.{at-inside}
-use Rattle.reading.specs.Answers.{NotHanded, partOf, partFound, partIn}
+use Rattle.reading.specs.Answers.{NotHanded, partFound, partIn}
+use Rattle.reading.specs.PartLaws.{part-missing}
 use Rattle.compacting.specs.Compact.{isManifest, withoutManifests, copied, segmentsOf, movedTo, movedFrom, freshPayload, freshFile, freshManifest, freshFound}
 use Rattle.compacting.specs.Compact.{damaged, compactedBy, compactFound, compactCase, bufferFound, compactBuffer}
 use Rattle.compacting.specs.Copied.{live-all, none-manifest, without-none, moved-length, all-moved, all-whole, whole-sound}
@@ -178,10 +179,10 @@ module _ (f buf : List ℕ) (end id count : ℕ) (t : Bytes f) (in-limit : lengt
       (moved-length 0 (copied r) ∙ sym (a .count-is))
 
   others : (x : ℕ) → withId x (copied r) ≡ none → partIn g x ≡ NotHanded 3
-  unfolding partIn partFound partOf
+  unfolding partIn
   others x n =
       at-within (NotHanded 1) (partFound x) g within ∙ ap (partFound x) reopens
-      ∙ ap (λ (ls : List Link). partOf (withId x ls)) (live-fresh f r t e) ∙ ap partOf (with-moved x 0 (copied r) n)
+      ∙ part-missing x (freshFound r) (ap (withId x) (live-fresh f r t e) ∙ with-moved x 0 (copied r) n)
 
   again : (buf′ : List ℕ) → end ≤ length buf′ → (compactCase g buf′ ≡ At end id count) × (compactBuffer g buf′ ≡ over buf′ 0 g)
   unfolding compactCase compactBuffer freshManifest linkOf

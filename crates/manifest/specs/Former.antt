@@ -24,12 +24,15 @@ unfoldable pub formerLink : Option Link → Option Link
 formerLink none = none
 formerLink (some l) = cond (formerType (l .kind)) (some l) none
 
+-- the same format otherwise: sizes, and what the next link is read with
 abbrev pub formerReader : Reader State Link
 formerReader = record { linkAt = λ st s. formerLink (linkAt st s); size = size; after = after }
 
+-- 'The chain from byte 0', as it was
 unfoldable pub formerChain : List ℕ → List Link
 formerChain f = walk formerReader start f
 
+-- 'The file's manifest', as it was: confirmation is the same
 unfoldable pub formerOpened : List ℕ → Option (Found Link)
 formerOpened f = openOf formerReader confirmed start f
 
