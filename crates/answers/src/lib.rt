@@ -1,4 +1,6 @@
 // What every call that writes at the front of a buffer answers: the length written, or the number of a refusal.
+#![tactic(auto)]
+
 pub mod limits;
 
 #[derive(Drop)]

@@ -1,5 +1,7 @@
 // Appending a batch to a file. Every test is made before the first byte is written: a refusal leaves the buffer as it
 // was.
+#![tactic(auto)]
+
 pub mod bodies;
 pub mod commit;
 pub mod form;

@@ -1,4 +1,5 @@
 // Appending: definitions and laws (specs/), and the type of what an append answers.
+#![tactic(auto)]
 
 // What an append answers: the new end, the manifest's id and the number of its entries; or the number of a refusal.
 #[derive(Drop)]

@@ -1,3 +1,5 @@
+#![tactic(auto)]
+
 pub mod anew;
 pub mod cut;
 pub mod twice;

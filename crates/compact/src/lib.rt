@@ -1,4 +1,6 @@
 // Getting room back: a fresh file of a file's live segments, written into a buffer.
+#![tactic(auto)]
+
 pub mod copies;
 pub mod select;
 

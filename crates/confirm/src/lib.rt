@@ -2,6 +2,8 @@
 // the states that it says, and compared. Cheap tests come first: a file with many links of type 0x05 costs a test of
 // the length for most of them. The content hash comes last: where the payload is the one that was written, the checksum
 // that its root holds is right, and the hash asks for no pass over the root.
+#![tactic(auto)]
+
 pub mod entries;
 pub mod payload;
 pub mod states;

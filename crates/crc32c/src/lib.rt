@@ -1,6 +1,8 @@
 // CRC32C of a slice: a short one in four lanes of eight bytes, a longer one by windows. No table stands here. Eight
 // steps with a polynomial that is known are a loop that the compiler replaces by a look-up in a table of 256 numbers,
 // which it lays down once among the program's constants. A constant array of the source would be copied at each call.
+#![tactic(auto)]
+
 mod window;
 
 ghost use Rattle.std.specs.Prelude.{◌≡◌, ◌+◌, ◌<◌, ◌≤◌, ◌^◌, length, drop};

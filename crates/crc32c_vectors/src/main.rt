@@ -1,5 +1,7 @@
 // The published vectors of CRC32C: those of RFC 3720, B.4, and the check value of the usual nine digits. A line for
 // each: its name, and `ok` or `differs`.
+#![tactic(auto)]
+
 use libc::STDOUT_FILENO;
 
 fn show(name: &[u8], data: &[u8], expected: u32) {

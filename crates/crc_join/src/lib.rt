@@ -1,5 +1,7 @@
 // Checksums joined: one pass over a block serves the block and all that it stands in. A register is taken over n bytes
 // that are not looked at by a product for each binary digit of n.
+#![tactic(auto)]
+
 ghost use Rattle.std.specs.Prelude.{◌≡◌, ◌*◌, ◌<◌, ◌^◌};
 ghost use Rattle.crc32c.specs.Crc.{poly, bits, crc_of};
 ghost use Rattle.crc32c.specs.Extend.{extended};

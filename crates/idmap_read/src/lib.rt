@@ -1,5 +1,7 @@
 // The id-map reader: the map's length, and its ids at the front of a lent list. Every rule of a map is 5, then a list
 // too short for the ids 9.
+#![tactic(auto)]
+
 pub mod decode;
 pub mod delta;
 

@@ -1,4 +1,6 @@
 // The id-map writer: 14 for input that breaks a rule, then 9 for a buffer without room; else the map, and its length.
+#![tactic(auto)]
+
 pub mod encode;
 pub mod refusal;
 

@@ -1,4 +1,6 @@
 // The lister: what it prints about a file, as text at the front of a buffer.
+#![tactic(auto)]
+
 pub mod entries;
 pub mod line;
 pub mod text;

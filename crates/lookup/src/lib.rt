@@ -1,3 +1,5 @@
+#![tactic(auto)]
+
 pub mod in_file;
 pub mod in_segment;
 pub mod payload;

@@ -1,4 +1,6 @@
 // Manifests and what opening finds: definitions and laws (specs/), and the types of what is answered about them.
+#![tactic(auto)]
+
 pub mod fields;
 
 // What opening a file answers: its manifest's offset, end and id, the number of its entries and the boundaries tried;

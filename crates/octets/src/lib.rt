@@ -1,4 +1,6 @@
 // Slices of bytes: copied, cleared, tested for zero, compared; a byte as a number; and rounding to 64.
+#![tactic(auto)]
+
 pub mod le;
 pub mod numbers;
 pub mod text;

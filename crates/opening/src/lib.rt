@@ -1,4 +1,6 @@
 // Opening a file: the search from its end for the last confirmed manifest of the chain.
+#![tactic(auto)]
+
 pub mod directory;
 
 ghost use Rattle.std.specs.Prelude.{◌≡◌, ◌+◌, ◌≤◌, ◌<◌, length, take};

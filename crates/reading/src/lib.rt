@@ -1,4 +1,6 @@
 // Reading by id: definitions and laws (specs/), and the types of what is answered.
+#![tactic(auto)]
+
 use vecseg::Component;
 
 // Where a payload begins in the file and how long it is; or the number of a refusal.

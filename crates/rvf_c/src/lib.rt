@@ -1,5 +1,7 @@
 // The exported calls. Each decides nothing: it calls the function below it, returns the number of a refusal or 0, and
 // lays the values into `out`.
+#![tactic(auto)]
+
 mod by_id;
 mod compaction;
 mod files;

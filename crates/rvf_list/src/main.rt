@@ -1,5 +1,7 @@
 // Reads a file from standard input, at most 65,536 bytes, and prints its directory as a list, or `refused n`. One
 // byte more than the limit is read, so that a longer file shows as one.
+#![tactic(auto)]
+
 use answers::Wrote;
 use libc::{STDIN_FILENO, STDOUT_FILENO};
 

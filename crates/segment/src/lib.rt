@@ -1,4 +1,6 @@
 // Segments of the file: the types and flags that a header may have, the content hash, and whether a link is whole.
+#![tactic(auto)]
+
 pub mod chain;
 pub mod fields;
 pub mod header;

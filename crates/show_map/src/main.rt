@@ -1,5 +1,7 @@
 // Reads an id map from standard input, at most 65,536 bytes, and prints its length and its ids, one a line; or
 // `refused n`.
+#![tactic(auto)]
+
 use answers::Wrote;
 use libc::{STDIN_FILENO, STDOUT_FILENO};
 

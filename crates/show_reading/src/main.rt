@@ -1,5 +1,7 @@
 // Reads a file from standard input, at most 65,536 bytes, and prints what is read out of it: the payloads of two
 // segments, and components of vectors by their kind; or `refused n`. A payload is a part of the lent file, not a copy.
+#![tactic(auto)]
+
 ghost use Rattle.std.specs.Prelude.{◌≡◌, nat_abs};
 
 use libc::{STDIN_FILENO, STDOUT_FILENO};

@@ -1,4 +1,6 @@
 // Unsigned LEB128 of a `u64`, in its shortest form: at most ten bytes, seven bits a byte, the lowest first.
+#![tactic(auto)]
+
 pub mod write;
 
 ghost use Rattle.std.specs.Prelude.{◌≡◌, ◌+◌, ◌<◌, length, drop};

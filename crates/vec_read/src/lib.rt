@@ -1,5 +1,7 @@
 // A vector by its id out of a VEC_SEG payload. The payload is checked whole first: no vector leaves one that is not
 // sound.
+#![tactic(auto)]
+
 pub mod block;
 pub mod check;
 pub mod lines;

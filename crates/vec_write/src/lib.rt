@@ -1,5 +1,7 @@
 // The one-block vector writer: 14 for input that breaks a rule, then 9 for a buffer without room; else the payload,
 // and its length.
+#![tactic(auto)]
+
 pub mod parts;
 
 ghost use Rattle.std.specs.Prelude.{◌≡◌, ◌+◌, ◌<◌};

@@ -1,4 +1,5 @@
 // VEC_SEG payloads: definitions and laws (specs/), and the types of what is read out of one.
+#![tactic(auto)]
 
 // The type of a VEC_SEG.
 pub const KIND: u8 = 0x01;

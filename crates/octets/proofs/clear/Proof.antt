@@ -10,25 +10,25 @@ use borrow.Author.Rules.{rules}
 use Rattle.octets.proofs.clear.Statement.{statement}
 use Rattle.octets.proofs.clear.Tie as tie
 
-abbrev invariant-loop : tie.invariant-loop
-invariant-loop buf₀ i₀ buf i = (i ≤ length buf₀) × ((length buf ≡ length buf₀) × (buf ≡ replicate i 0 ++ drop i buf₀))
+abbrev invariant-loop-i : tie.invariant-loop-i
+invariant-loop-i buf₀ i₀ buf i = (i ≤ length buf₀) × ((length buf ≡ length buf₀) × (buf ≡ replicate i 0 ++ drop i buf₀))
 
-abbrev decreases-loop : tie.decreases-loop
-decreases-loop buf₀ i₀ buf i = length buf₀ - i
+abbrev decreases-loop-i : tie.decreases-loop-i
+decreases-loop-i buf₀ i₀ buf i = length buf₀ - i
 
-loop-holds : tie.Need-loop-init invariant-loop decreases-loop
+loop-holds : tie.Need-loop-i-init invariant-loop-i decreases-loop-i
 loop-holds c = (search rules, (refl, fill_none _ 0))
 
-loop-again : tie.Need-loop-preserved invariant-loop decreases-loop
+loop-again : tie.Need-loop-i-preserved invariant-loop-i decreases-loop-i
 loop-again c =
-    let l = c.before.loop in
+    let l = c.before.loop-i in
     let buf = c.before.before.args.buf.now in
     let h : l.i < length buf = omega arith in
     (search rules, (search rules, rw l.invariant.1.1 (fill_more l.i 0 buf h)))
 
-returns : tie.Need-returns invariant-loop decreases-loop
+returns : tie.Need-returns invariant-loop-i decreases-loop-i
 returns c =
-    let l = c.before.loop in
+    let l = c.before.loop-i in
     let buf = c.before.before.args.buf.now in
     let e : l.i ≡ length buf = omega arith in
     rw (drop_of_length-le buf {i = l.i} (omega arith), append-nil, e) at l.invariant.1.1
@@ -37,4 +37,4 @@ pub clear_spec : {M : Type 1} → statement M
 clear_spec =
     tie.close
     (tie.spec
-    invariant-loop decreases-loop loop-holds (search rules) (search rules) (search rules) loop-again (search rules) returns)
+    invariant-loop-i decreases-loop-i loop-holds (search rules) (search rules) (search rules) loop-again (search rules) returns)

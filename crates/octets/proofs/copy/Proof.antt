@@ -12,18 +12,18 @@ use borrow.Author.Rules.{rules}
 use Rattle.octets.proofs.copy.Statement.{statement}
 use Rattle.octets.proofs.copy.Tie as tie
 
-abbrev invariant-loop : tie.invariant-loop
-invariant-loop buf₀ body i₀ buf i = (i ≤ length body) × ((length buf ≡ length buf₀) × (buf ≡ over buf₀ 0 (take i body)))
+abbrev invariant-loop-i : tie.invariant-loop-i
+invariant-loop-i buf₀ body i₀ buf i = (i ≤ length body) × ((length buf ≡ length buf₀) × (buf ≡ over buf₀ 0 (take i body)))
 
-abbrev decreases-loop : tie.decreases-loop
-decreases-loop buf₀ body i₀ buf i = length body - i
+abbrev decreases-loop-i : tie.decreases-loop-i
+decreases-loop-i buf₀ body i₀ buf i = length body - i
 
-loop-holds : tie.Need-loop-init invariant-loop decreases-loop
+loop-holds : tie.Need-loop-i-init invariant-loop-i decreases-loop-i
 loop-holds c = (search rules, (refl, sym (over_none _ 0)))
 
-loop-again : tie.Need-loop-preserved invariant-loop decreases-loop
+loop-again : tie.Need-loop-i-preserved invariant-loop-i decreases-loop-i
 loop-again c =
-    let l = c.before.before.loop in
+    let l = c.before.before.loop-i in
     let body = c.before.before.before.args.body.now in
     let h : l.i < length body = omega arith in (
       search rules,
@@ -34,14 +34,14 @@ loop-again c =
       ),
     )
 
-returns : tie.Need-returns invariant-loop decreases-loop
+returns : tie.Need-returns invariant-loop-i decreases-loop-i
 returns c =
-    let l = c.before.loop in
+    let l = c.before.loop-i in
     rw (take_all l.i c.before.before.args.body.now (omega arith)) at l.invariant.1.1
 
 pub copy_spec : {M : Type 1} → statement M
 copy_spec =
     tie.close
     (tie.spec
-    invariant-loop decreases-loop loop-holds (search rules) (search rules) (search rules) (search rules) loop-again
+    invariant-loop-i decreases-loop-i loop-holds (search rules) (search rules) (search rules) (search rules) loop-again
     (search rules) returns)

@@ -13,25 +13,25 @@ use borrow.Author.Rules.{rules}
 use Rattle.octets.proofs.same.Statement.{statement}
 use Rattle.octets.proofs.same.Tie as tie
 
-abbrev invariant-loop : tie.invariant-loop
-invariant-loop a b acc₀ i₀ acc i = (i ≤ length a) × (eqb acc 0 && same_bytes (drop i a) (drop i b) ≡ same_bytes a b)
+abbrev invariant-loop-i : tie.invariant-loop-i
+invariant-loop-i a b acc₀ i₀ acc i = (i ≤ length a) × (eqb acc 0 && same_bytes (drop i a) (drop i b) ≡ same_bytes a b)
 
-abbrev decreases-loop : tie.decreases-loop
-decreases-loop a b acc₀ i₀ acc i = length a - i
+abbrev decreases-loop-i : tie.decreases-loop-i
+decreases-loop-i a b acc₀ i₀ acc i = length a - i
 
-returns : tie.Need-returns invariant-loop decreases-loop
-returns c = sym (same_length _ _ c.if1.true)
+returns : tie.Need-returns-then-a-b invariant-loop-i decreases-loop-i
+returns c = sym (same_length _ _ c.if-a-b.true)
 
-loop-again : tie.Need-loop-preserved invariant-loop decreases-loop
+loop-again : tie.Need-loop-i-preserved invariant-loop-i decreases-loop-i
 loop-again c =
     let l' = c.before.before.before in
-    let l = l'.loop in
+    let l = l'.loop-i in
     let a = l'.before.before.args in
     (search rules, rw add-one (same_turn a.a.now a.b.now l.acc l.i (omega arith) (omega arith) ∙ l.invariant.1))
 
-returns-2 : tie.Need-returns-2 invariant-loop decreases-loop
+returns-2 : tie.Need-returns invariant-loop-i decreases-loop-i
 returns-2 c =
-    let l = c.before.loop in
+    let l = c.before.loop-i in
     let a = c.before.before.before.args in
     sym (same_end a.a.now a.b.now l.acc l.i (omega arith) (omega arith)) ∙ l.invariant.1
 
@@ -39,5 +39,5 @@ pub same_spec : {M : Type 1} → statement M
 same_spec =
     tie.close
     (tie.spec
-    invariant-loop decreases-loop returns (search rules) (search rules) (search rules) (search rules) (search rules)
+    invariant-loop-i decreases-loop-i returns (search rules) (search rules) (search rules) (search rules) (search rules)
     loop-again returns-2)

@@ -23,43 +23,43 @@ abbrev put-decimal-below : ℕ → In 1 put-decimal-kinds.ps
 put-decimal-below t =
     and 1 put-decimal-kinds.ps (falls 1 put-decimal-kinds.ps ◌<◌ μ-put-decimal t) put-decimal.Pre
 
-put-decimal-cast-buf : (t : ℕ) → put-decimal-lts.Need-overflow-cast-buf (
+put-decimal-cast-buf : (t : ℕ) → put-decimal-lts.Need-overflow_cast-buf (
   put-decimal-below t,
   put-decimal.Post,
 ) (put-decimal-at t) put-decimal.Post
 put-decimal-cast-buf t c = omega arith
 
-put-decimal-add-buf : (t : ℕ) → put-decimal-lts.Need-overflow-add-buf (
+put-decimal-add-buf : (t : ℕ) → put-decimal-lts.Need-overflow_add-buf (
   put-decimal-below t,
   put-decimal.Post,
 ) (put-decimal-at t) put-decimal.Post
 put-decimal-add-buf t c = omega arith
 
-put-decimal-slice-write-buf : (t : ℕ) → put-decimal-lts.Need-slice-write-buf (
+put-decimal-slice-write-buf : (t : ℕ) → put-decimal-lts.Need-bounds-buf-at (
   put-decimal-below t,
   put-decimal.Post,
 ) (put-decimal-at t) put-decimal.Post
-put-decimal-slice-write-buf t c = first_room _ _ _ c.if1.true c.before.before.requires.1
+put-decimal-slice-write-buf t c = first_room _ _ _ c.if-n-lt10.true c.before.before.requires.1
 
-put-decimal-add-result : (t : ℕ) → put-decimal-lts.Need-overflow-add-result (
+put-decimal-add-result : (t : ℕ) → put-decimal-lts.Need-overflow_add-result (
   put-decimal-below t,
   put-decimal.Post,
 ) (put-decimal-at t) put-decimal.Post
-put-decimal-add-result t c = let h = first_room _ _ _ c.if1.true c.before.before.requires.1 in omega arith
+put-decimal-add-result t c = let h = first_room _ _ _ c.if-n-lt10.true c.before.before.requires.1 in omega arith
 
-put-decimal-same-length : (t : ℕ) → put-decimal-lts.Need-same-length (
+put-decimal-same-length : (t : ℕ) → put-decimal-lts.Need-shape_of-buf-then-n-lt10 (
   put-decimal-below t,
   put-decimal.Post,
 ) (put-decimal-at t) put-decimal.Post
 put-decimal-same-length t c = simp length-set
 
-put-decimal-returns : (t : ℕ) → put-decimal-lts.Need-returns (
+put-decimal-returns : (t : ℕ) → put-decimal-lts.Need-returns-then-n-lt10 (
   put-decimal-below t,
   put-decimal.Post,
 ) (put-decimal-at t) put-decimal.Post
-put-decimal-returns t c = digit_first _ _ _ c.if1.true c.before.before.requires.1
+put-decimal-returns t c = digit_first _ _ _ c.if-n-lt10.true c.before.before.requires.1
 
-put-decimal-put-decimal-requires : (t : ℕ) → put-decimal-lts.Need-put-decimal-requires (
+put-decimal-put-decimal-requires : (t : ℕ) → put-decimal-lts.Need-put_decimal-last-requires (
   put-decimal-below t,
   put-decimal.Post,
 ) (put-decimal-at t) put-decimal.Post
@@ -67,50 +67,50 @@ put-decimal-put-decimal-requires t c κs = let h =
     digits_room _ _ _ (omega arith) c.before.before.before.requires.1 in
     (omega (arith, h.1, c.before.before.before.requires.0), omega (arith, h.0))
 
-put-decimal-cast-buf-2 : (t : ℕ) → put-decimal-lts.Need-overflow-cast-buf-2 (
+put-decimal-cast-buf-2 : (t : ℕ) → put-decimal-lts.Need-overflow_cast-buf-2 (
   put-decimal-below t,
   put-decimal.Post,
 ) (put-decimal-at t) put-decimal.Post
 put-decimal-cast-buf-2 t c = omega arith
 
-put-decimal-add-buf-2 : (t : ℕ) → put-decimal-lts.Need-overflow-add-buf-2 (
+put-decimal-add-buf-2 : (t : ℕ) → put-decimal-lts.Need-overflow_add-buf-2 (
   put-decimal-below t,
   put-decimal.Post,
 ) (put-decimal-at t) put-decimal.Post
 put-decimal-add-buf-2 t c = omega arith
 
-put-decimal-slice-write-buf-2 : (t : ℕ) → put-decimal-lts.Need-slice-write-buf-2 (
+put-decimal-slice-write-buf-2 : (t : ℕ) → put-decimal-lts.Need-bounds-buf-last (
   put-decimal-below t,
   put-decimal.Post,
 ) (put-decimal-at t) put-decimal.Post
 put-decimal-slice-write-buf-2 t c = let h =
     digits_room _ _ _ (omega arith) c.before.before.before.before.before.before.requires.1 in
-    omega (arith, h.0, c.before.before.put-decimal.ensures.ends, c.before.before.put-decimal.auto.0)
+    omega (arith, h.0, c.before.before.put_decimal-last.ensures.ends, c.before.before.put_decimal-last.auto.buf)
 
-put-decimal-add-result-2 : (t : ℕ) → put-decimal-lts.Need-overflow-add-result-2 (
+put-decimal-add-result-2 : (t : ℕ) → put-decimal-lts.Need-overflow_add-result-2 (
   put-decimal-below t,
   put-decimal.Post,
 ) (put-decimal-at t) put-decimal.Post
 put-decimal-add-result-2 t c = let h =
     digits_room _ _ _ (omega arith) c.before.before.before.before.before.before.requires.1 in
-    omega (arith, h.0, c.before.before.put-decimal.ensures.ends)
+    omega (arith, h.0, c.before.before.put_decimal-last.ensures.ends)
 
-put-decimal-same-length-2 : (t : ℕ) → put-decimal-lts.Need-same-length-2 (
+put-decimal-same-length-2 : (t : ℕ) → put-decimal-lts.Need-shape_of-buf (
   put-decimal-below t,
   put-decimal.Post,
 ) (put-decimal-at t) put-decimal.Post
-put-decimal-same-length-2 t c = simp length-set c.before.before.put-decimal.auto.0
+put-decimal-same-length-2 t c = simp length-set c.before.before.put_decimal-last.auto.buf
 
-put-decimal-returns-2 : (t : ℕ) → put-decimal-lts.Need-returns-2 (
+put-decimal-returns-2 : (t : ℕ) → put-decimal-lts.Need-returns (
   put-decimal-below t,
   put-decimal.Post,
 ) (put-decimal-at t) put-decimal.Post
 put-decimal-returns-2 t c =
     digit_next _ _ _ _ _ (omega arith) c.before.before.before.before.before.before.requires.1
-    c.before.before.put-decimal.ensures
+    c.before.before.put_decimal-last.ensures
 
-pub +put-decimal-spec : {M : Type 1} → statement M
-+put-decimal-spec = close μ-put-decimal λ t. put-decimal-lts.spec (
+pub +put_decimal_spec : {M : Type 1} → statement M
++put_decimal_spec = close μ-put-decimal λ t. put-decimal-lts.spec (
   put-decimal-below t,
   put-decimal.Post,
 )
