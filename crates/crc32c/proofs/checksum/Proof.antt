@@ -7,14 +7,14 @@ use borrow.Author.Rules.{rules}
 use Rattle.crc32c.proofs.checksum.Statement.{statement}
 use Rattle.crc32c.proofs.checksum.Tie as tie
 
-returns : tie.Need-returns
-returns c = c.by-lanes.ensures ∙ crc_of_by c.before.before.before.args.«data».now _ refl
+returns : tie.Need-returns-then-data-lt-LONG
+returns c = c.by_lanes.ensures ∙ crc_of_by c.args.«data».now _ refl
 
-returns-2 : tie.Need-returns-2
-returns-2 c = c.by_near.ensures ∙ crc_of_by c.before.before.before.before.args.«data».now _ refl
+returns-2 : tie.Need-returns-then-data-lt-LONGEST
+returns-2 c = c.by_near.ensures ∙ crc_of_by c.args.«data».now _ refl
 
-returns-3 : tie.Need-returns-3
-returns-3 c = c.by-far.ensures ∙ crc_of_by c.before.before.before.before.args.«data».now _ refl
+returns-3 : tie.Need-returns
+returns-3 c = c.by_far.ensures ∙ crc_of_by c.args.«data».now _ refl
 
 pub checksum_spec : {M : Type 1} → statement M
 checksum_spec = tie.close (tie.spec (search rules) returns (search rules) returns-2 (search rules) returns-3)

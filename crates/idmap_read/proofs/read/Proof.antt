@@ -6,10 +6,10 @@ use borrow.Author.Rules.{rules}
 use Rattle.idmap_read.proofs.read.Statement.{statement}
 use Rattle.idmap_read.proofs.read.Tie as tie
 
-returns : tie.Need-returns
+returns : tie.Need-returns-then-count-lt1
 returns c = read_none _ _ _ (omega arith)
 
-returns-2 : tie.Need-returns-2
+returns-2 : tie.Need-returns-then-count
 returns-2 c = read_over _ _ _ (omega arith)
 
 pub read_spec : {M : Type 1} → statement M

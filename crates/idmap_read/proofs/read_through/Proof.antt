@@ -7,25 +7,25 @@ use borrow.Author.Rules.{rules}
 use Rattle.idmap_read.proofs.read_through.Statement.{statement}
 use Rattle.idmap_read.proofs.read_through.Tie as tie
 
-returns : tie.Need-returns
+returns : tie.Need-returns-then-ids-count
 returns c =
-    let d = c.before.before.before.before.before.before in
-    let s = d.before.before.before.before.before in
-    read_short s.args.count s.args.s.now _ _ (sym d.decode.ensures.0 ∙ c.before.before.m2.given.1) (omega arith)
+    let d = c in
+    let s = d in
+    read_short s.args.count s.args.s.now _ _ (sym d.decode-m.ensures.0 ∙ c.m-in-Length-1.given.1) (omega arith)
 
-returns-2 : tie.Need-returns-2
+returns-2 : tie.Need-returns-in-Refused
 returns-2 c =
-    let d = c.before.before.before.before.before in
-    let s = d.before.before.before.before.before in
-    read_broken s.args.count s.args.s.now _ _ (sym d.decode.ensures.0 ∙ c.before.m.given.1)
+    let d = c in
+    let s = d in
+    read_broken s.args.count s.args.s.now _ _ (sym d.decode-m.ensures.0 ∙ c.m.given.1)
 
-returns-3 : tie.Need-returns-3
+returns-3 : tie.Need-returns-else-ids-count
 returns-3 c =
-    let m = c.before.before.before.before.before.before.before in
-    let d = m.before.before.before.before in
-    let s = d.before.before.before.before.before in
-    read_done s.args.count s.args.s.now _ _ (sym d.decode.ensures.0 ∙ m.m2.given.1) _ _
-    d.decode.ensures.1 (omega arith) c.before.before.copy-ids.ensures
+    let m = c in
+    let d = m in
+    let s = d in
+    read_done s.args.count s.args.s.now _ _ (sym d.decode-m.ensures.0 ∙ m.m-in-Length-1.given.1) _ _
+    d.decode-m.ensures.1 (omega arith) c.copy_ids.ensures
 
 pub read_through_spec : {M : Type 1} → statement M
 read_through_spec =

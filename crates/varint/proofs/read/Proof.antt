@@ -7,14 +7,14 @@ use borrow.Author.Rules.{rules}
 use Rattle.varint.proofs.read.Statement.{statement}
 use Rattle.varint.proofs.read.Tie as tie
 
-returns : tie.Need-returns
+returns : tie.Need-returns-then-s-eq0
 returns c = read_none c.before.before.args.s.now 0 (omega arith)
 
-returns-2 : tie.Need-returns-2
+returns-2 : tie.Need-returns-then-b-lt128
 returns-2 c = read_one c.before.before.before.before.before.args.s.now 0 _ (omega arith) (omega arith) (omega arith)
 
-returns-3 : tie.Need-returns-3
-returns-3 c = c.read-rest.ensures ∙ read_on c.before.before.before.before.before.before.args.s.now 0 _
+returns-3 : tie.Need-returns
+returns-3 c = c.read_rest.ensures ∙ read_on c.before.before.before.before.before.before.args.s.now 0 _
     (omega arith) (omega arith) (omega arith)
 
 pub read_spec : {M : Type 1} → statement M

@@ -10,122 +10,122 @@ use borrow.Author.Rules.{rules}
 use Rattle.varint.proofs.read_rest.Statement.{statement}
 use Rattle.varint.proofs.read_rest.Tie as tie
 
-abbrev invariant-loop : tie.invariant-loop
-invariant-loop s at first i₀ acc₀ p₀ i acc p = (ReadSoFar i acc p) × (Left s at i acc p ≡ onto 1 first 128 (decode 9 (drop (at + 1) s)))
+abbrev invariant-loop-i : tie.invariant-loop-i
+invariant-loop-i s at first i₀ acc₀ p₀ i acc p = (ReadSoFar i acc p) × (Left s at i acc p ≡ onto 1 first 128 (decode 9 (drop (at + 1) s)))
 
-abbrev decreases-loop : tie.decreases-loop
-decreases-loop s at first i₀ acc₀ p₀ i acc p = 9 - i
+abbrev decreases-loop-i : tie.decreases-loop-i
+decreases-loop-i s at first i₀ acc₀ p₀ i acc p = 9 - i
 
-loop-holds : tie.Need-loop-init invariant-loop decreases-loop
+loop-holds : tie.Need-loop-i-init invariant-loop-i decreases-loop-i
 unfolding Left
 loop-holds c = (starts _ c.before.requires.1, refl)
 
-returns : tie.Need-returns invariant-loop decreases-loop
+returns : tie.Need-returns-then-s-at invariant-loop-i decreases-loop-i
 returns c =
-    let l = c.before.before.loop in
+    let l = c.before.before.loop-i in
     let a = c.before.before.before.before.args in
     left_none a.s.now a.at l.i l.acc l.p l.invariant.0.at_most (omega arith) ∙ l.invariant.1
 
-returns-2 : tie.Need-returns-2 invariant-loop decreases-loop
+returns-2 : tie.Need-returns-then-b-eq0 invariant-loop-i decreases-loop-i
 returns-2 c =
     let l' = c.before.before.before.before.before in
-    let l = l'.loop in
+    let l = l'.loop-i in
     let a = l'.before.before.args in
-    left_zero a.s.now a.at l.i l.acc l.p l.invariant.0.at_most c.before.wide.result
-    c.before.wide.ensures.0 (omega arith) c.if2.true ∙ l.invariant.1
+    left_zero a.s.now a.at l.i l.acc l.p l.invariant.0.at_most c.before.wide-b.result
+    c.before.wide-b.ensures.0 (omega arith) c.if-b-eq0.true ∙ l.invariant.1
 
-mul-t14 : tie.Need-overflow-mul-t14 invariant-loop decreases-loop
+mul-t14 : tie.Need-overflow_mul-result invariant-loop-i decreases-loop-i
 mul-t14 c =
-    let l = c.before.before.before.before.before.before.loop in
-    omega (arith, (stands_fits _ _ _ c.before.before.wide.result l.invariant.0 (omega arith) (omega arith)).0)
+    let l = c.before.before.before.before.before.before.loop-i in
+    omega (arith, (stands_fits _ _ _ c.before.before.wide-b.result l.invariant.0 (omega arith) (omega arith)).0)
 
-add-t15 : tie.Need-overflow-add-t15 invariant-loop decreases-loop
+add-t15 : tie.Need-overflow_add-result invariant-loop-i decreases-loop-i
 add-t15 c =
-    let l = c.before.before.before.before.before.before.loop in
-    omega (arith, (stands_fits _ _ _ c.before.before.wide.result l.invariant.0 (omega arith) (omega arith)).0)
+    let l = c.before.before.before.before.before.before.loop-i in
+    omega (arith, (stands_fits _ _ _ c.before.before.wide-b.result l.invariant.0 (omega arith) (omega arith)).0)
 
-returns-3 : tie.Need-returns-3 invariant-loop decreases-loop
+returns-3 : tie.Need-returns-then-b-lt128 invariant-loop-i decreases-loop-i
 returns-3 c =
     let l' = c.before.before.before.before.before.before in
-    let l = l'.loop in
+    let l = l'.loop-i in
     let a = l'.before.before.args in
-    let b = c.before.before.wide in
+    let b = c.before.before.wide-b in
     left_value a.s.now a.at l.i l.acc l.p l.invariant.0.at_most b.result b.ensures.0
-    (omega arith) c.if3.true c.before.if2.false
+    (omega arith) c.if-b-lt128.true c.before.if-b-eq0.false
     (stands_fits _ _ _ b.result l.invariant.0 (omega arith) (omega arith)).0
     ∙ l.invariant.1
 
-mul-acc : tie.Need-overflow-mul-acc invariant-loop decreases-loop
+mul-acc : tie.Need-overflow_mul-acc invariant-loop-i decreases-loop-i
 mul-acc c =
-    let l = c.before.before.before.before.before.before.loop in
-    omega (arith, (stands_fits _ _ _ (c.before.before.wide.result - 128) l.invariant.0 (omega arith) (omega arith)).0)
+    let l = c.before.before.before.before.before.before.loop-i in
+    omega (arith, (stands_fits _ _ _ (c.before.before.wide-b.result - 128) l.invariant.0 (omega arith) (omega arith)).0)
 
-add-acc : tie.Need-overflow-add-acc invariant-loop decreases-loop
+add-acc : tie.Need-overflow_add-acc invariant-loop-i decreases-loop-i
 add-acc c =
-    let l = c.before.before.before.before.before.before.loop in
-    omega (arith, (stands_fits _ _ _ (c.before.before.wide.result - 128) l.invariant.0 (omega arith) (omega arith)).0)
+    let l = c.before.before.before.before.before.before.loop-i in
+    omega (arith, (stands_fits _ _ _ (c.before.before.wide-b.result - 128) l.invariant.0 (omega arith) (omega arith)).0)
 
-mul-p : tie.Need-overflow-mul-p invariant-loop decreases-loop
+mul-p : tie.Need-overflow_mul-p invariant-loop-i decreases-loop-i
 mul-p c =
-    let l = c.before.before.before.before.before.before.loop in
-    omega (arith, (stands_fits _ _ _ (c.before.before.wide.result - 128) l.invariant.0 (omega arith) (omega arith)).1)
+    let l = c.before.before.before.before.before.before.loop-i in
+    omega (arith, (stands_fits _ _ _ (c.before.before.wide-b.result - 128) l.invariant.0 (omega arith) (omega arith)).1)
 
-loop-again : tie.Need-loop-preserved invariant-loop decreases-loop
+loop-again : tie.Need-loop-i-preserved invariant-loop-i decreases-loop-i
 loop-again c =
     let l' = c.before.before.before.before.before.before in
-    let l = l'.loop in
+    let l = l'.loop-i in
     let a = l'.before.before.args in
-    let b = c.before.before.wide in
+    let b = c.before.before.wide-b in
     let k : 128 ≤ get_or a.s.now (a.at + l.i) 0 = omega arith in (
-      stands_next _ _ _ _ l.invariant.0 (omega arith) (omega arith) c.if3.false,
+      stands_next _ _ _ _ l.invariant.0 (omega arith) (omega arith) c.if-b-lt128.false,
       rw b.ensures.0
           (sym (left_next a.s.now a.at l.i l.acc l.p l.invariant.0.at_most (omega arith) k) ∙ l.invariant.1),
     )
 
-returns-4 : tie.Need-returns-4 invariant-loop decreases-loop
+returns-4 : tie.Need-returns-then-s-at-le9 invariant-loop-i decreases-loop-i
 returns-4 c =
-    let l = c.before.before.loop in
+    let l = c.before.before.loop-i in
     let a = c.before.before.before.before.args in
     let at_most = l.invariant.0.at_most in
     left_none a.s.now a.at l.i l.acc l.p at_most (omega arith) ∙ l.invariant.1
 
-add-t24 : tie.Need-overflow-add-t24 invariant-loop decreases-loop
+add-t24 : tie.Need-overflow_add-result-then-b-eq1 invariant-loop-i decreases-loop-i
 add-t24 c =
-    let l = c.before.before.before.before.before.loop in
+    let l = c.before.before.before.before.before.loop-i in
     let at_most = l.invariant.0.at_most in
     let low = l.invariant.0.low in
     let nine : l.i ≡ 9 = omega arith in
     let w : l.p ≡ 2 ^ 63 = (rw nine at l.invariant.0.weight) in
     omega arith
 
-returns-5 : tie.Need-returns-5 invariant-loop decreases-loop
+returns-5 : tie.Need-returns-then-b-eq1 invariant-loop-i decreases-loop-i
 returns-5 c =
     let l' = c.before.before.before.before.before in
-    let l = l'.loop in
+    let l = l'.loop-i in
     let a = l'.before.before.args in
     let at_most = l.invariant.0.at_most in
     let nine : l.i ≡ 9 = omega arith in
-    let b = c.before.wide2 in
+    let b = c.before.wide-b-2 in
     let q : a.at + 9 ≡ a.at + l.i = omega arith in
     let is : b.result ≡ get_or a.s.now (a.at + l.i) 0 = rw q at b.ensures.0 in
-    tenth_one a.s.now a.at l.i l.acc l.p at_most b.result is (omega arith) nine l.invariant.0 c.if5.true ∙ l.invariant.1
+    tenth_one a.s.now a.at l.i l.acc l.p at_most b.result is (omega arith) nine l.invariant.0 c.if-b-eq1.true ∙ l.invariant.1
 
-returns-6 : tie.Need-returns-6 invariant-loop decreases-loop
+returns-6 : tie.Need-returns invariant-loop-i decreases-loop-i
 returns-6 c =
     let l' = c.before.before.before.before.before in
-    let l = l'.loop in
+    let l = l'.loop-i in
     let a = l'.before.before.args in
     let at_most = l.invariant.0.at_most in
     let nine : l.i ≡ 9 = omega arith in
-    let b = c.before.wide2 in
+    let b = c.before.wide-b-2 in
     let q : a.at + 9 ≡ a.at + l.i = omega arith in
     let is : b.result ≡ get_or a.s.now (a.at + l.i) 0 = rw q at b.ensures.0 in
-    tenth_bad a.s.now a.at l.i l.acc l.p at_most b.result is (omega arith) nine l.invariant.0 c.if5.false ∙ l.invariant.1
+    tenth_bad a.s.now a.at l.i l.acc l.p at_most b.result is (omega arith) nine l.invariant.0 c.if-b-eq1.false ∙ l.invariant.1
 
 pub read_rest_spec : {M : Type 1} → statement M
 read_rest_spec =
     tie.close
     (tie.spec
-    invariant-loop decreases-loop loop-holds (search rules) returns (search rules) (search rules) (search rules) returns-2
+    invariant-loop-i decreases-loop-i loop-holds (search rules) returns (search rules) (search rules) (search rules) returns-2
     mul-t14 add-t15 (search rules) returns-3 mul-acc add-acc mul-p (search rules) (search rules) loop-again
     (search rules) returns-4 (search rules) (search rules) (search rules) add-t24 returns-5 returns-6)

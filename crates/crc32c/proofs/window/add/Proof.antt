@@ -11,22 +11,22 @@ use Rattle.crc32c.specs.Span.{span, add_turn}
 use Rattle.crc32c.proofs.window.add.Statement.{statement}
 use Rattle.crc32c.proofs.window.add.Tie as tie
 
-abbrev invariant-loop : tie.invariant-loop
-invariant-loop m₀ w at k d i₀ m i =
+abbrev invariant-loop-i : tie.invariant-loop-i
+invariant-loop-i m₀ w at k d i₀ m i =
     (i ≤ k)
     × ((length m ≡ length m₀) × ((span m 0 (d + i) ≡ bit_xor (span w at i) (span m₀ 0 (d + i))) × ((n : ℕ) → d + i ≤ n → get_or m n 0 ≡ get_or m₀ n 0)))
 
-abbrev decreases-loop : tie.decreases-loop
-decreases-loop m₀ w at k d i₀ m i = k - i
+abbrev decreases-loop-i : tie.decreases-loop-i
+decreases-loop-i m₀ w at k d i₀ m i = k - i
 
-loop-holds : tie.Need-loop-init invariant-loop decreases-loop
+loop-holds : tie.Need-loop-i-init invariant-loop-i decreases-loop-i
 unfolding span
 loop-holds c = (omega arith, (refl, (refl, λ n h. refl)))
 
-loop-again : tie.Need-loop-preserved invariant-loop decreases-loop
+loop-again : tie.Need-loop-i-preserved invariant-loop-i decreases-loop-i
 loop-again c =
-    let l = c.before.before.before.loop in
-    let a = c.before.before.before.before.args in
+    let l = c.loop-i in
+    let a = c.args in
     let d : ℕ = length a.m.now - a.k in (
       omega arith,
       (
@@ -38,10 +38,10 @@ loop-again c =
       ),
     )
 
-returns : tie.Need-returns invariant-loop decreases-loop
+returns : tie.Need-returns invariant-loop-i decreases-loop-i
 returns c =
-    let l = c.before.loop in
-    let a = c.before.before.args in
+    let l = c.loop-i in
+    let a = c.args in
     let e : length a.m.now - a.k + l.i ≡ length a.m.now = omega arith in
     let n : l.i ≡ a.k = omega arith in (
       l.invariant.1.0,
@@ -54,5 +54,5 @@ pub add_spec : {M : Type 1} → statement M
 add_spec =
     tie.close
     (tie.spec
-    invariant-loop decreases-loop (λ c. omega arith) loop-holds (λ c. omega arith) (λ c. omega arith) (λ c. omega arith) (λ c. omega arith)
+    invariant-loop-i decreases-loop-i (λ c. omega arith) loop-holds (λ c. omega arith) (λ c. omega arith) (λ c. omega arith) (λ c. omega arith)
     (λ c. omega arith) (λ c. omega arith) (λ c. omega arith) (λ c. omega arith) loop-again (λ c. omega arith) returns)

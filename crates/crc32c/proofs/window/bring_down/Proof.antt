@@ -10,31 +10,31 @@ use Rattle.crc32c.specs.Start.{moved}
 use Rattle.crc32c.proofs.window.bring_down.Statement.{statement}
 use Rattle.crc32c.proofs.window.bring_down.Tie as tie
 
-abbrev invariant-loop : tie.invariant-loop
-invariant-loop w₀ by far n i₀ w i = (i ≤ n) × ((length w ≡ length w₀) × Moved w₀ w by i)
+abbrev invariant-loop-i : tie.invariant-loop-i
+invariant-loop-i w₀ by far n i₀ w i = (i ≤ n) × ((length w ≡ length w₀) × Moved w₀ w by i)
 
-abbrev decreases-loop : tie.decreases-loop
-decreases-loop w₀ by far n i₀ w i = n - i
+abbrev decreases-loop-i : tie.decreases-loop-i
+decreases-loop-i w₀ by far n i₀ w i = n - i
 
-loop-holds : tie.Need-loop-init invariant-loop decreases-loop
+loop-holds : tie.Need-loop-i-init invariant-loop-i decreases-loop-i
 loop-holds c = (omega arith, (refl, moved_none _ _))
 
-loop-again : tie.Need-loop-preserved invariant-loop decreases-loop
+loop-again : tie.Need-loop-i-preserved invariant-loop-i decreases-loop-i
 loop-again c =
-    let l = c.before.before.loop in
-    let a = c.before.before.before.before.before.args in
+    let l = c.loop-i in
+    let a = c.args in
     (omega arith, (search rules, moved_next a.w.now l.w a.by l.i (omega arith) l.invariant.1.1))
 
-returns : tie.Need-returns invariant-loop decreases-loop
+returns : tie.Need-returns invariant-loop-i decreases-loop-i
 returns c =
-    let l = c.before.loop in
-    let s = c.before.before.before.before in
-    let e : l.i ≡ c.before.before.type_size.result = omega arith in
-    moved s.args.by-far s.args.w.now l.w s.args.by (λ n h. l.invariant.1.1.front n (omega (arith, e, c.before.before.type_size.ensures)))
+    let l = c.loop-i in
+    let s = c in
+    let e : l.i ≡ c.size_of-n.result = omega arith in
+    moved s.args.by_far s.args.w.now l.w s.args.by (λ n h. l.invariant.1.1.front n (omega (arith, e, c.size_of-n.ensures)))
 
 pub bring_down_spec : {M : Type 1} → statement M
 bring_down_spec =
     tie.close
     (tie.spec
-    invariant-loop decreases-loop (λ c. omega arith) loop-holds (λ c. omega arith) (λ c. omega arith) (λ c. omega arith) (λ c. omega arith)
+    invariant-loop-i decreases-loop-i (λ c. omega arith) loop-holds (λ c. omega arith) (λ c. omega arith) (λ c. omega arith) (λ c. omega arith)
     (λ c. omega arith) loop-again (λ c. omega arith) returns)

@@ -16,25 +16,25 @@ use Rattle.crc32c.specs.Start.{reach_of, size_of, started}
 use Rattle.crc32c.proofs.window.by_far.Statement.{statement}
 use Rattle.crc32c.proofs.window.by_far.Tie as tie
 
-take-in-requires : tie.Need-take-in-requires
+take-in-requires : tie.Need-take_in-at-requires
 unfolding size_of
 take-in-requires c κs = search rules
 
-far-message-requires : tie.Need-far-message-requires
+far-message-requires : tie.Need-far_message-requires
 far-message-requires c κs = (search rules, (length-replicate {A = ℕ} 5275 0, search rules))
 
 returns : tie.Need-returns
 unfolding reach_of
 returns c =
-    let c2 = c.before.before.before.before.before in
-    let c1 = c2.before.before.before.before in
-    let c0 = c1.before.before.before in
-    let start = c0.before.before.before in
-    let register : held far c0.put.new.0 0 ≡ start.args.c =
+    let c2 = c in
+    let c1 = c2 in
+    let c0 = c1 in
+    let start = c0 in
+    let register : held far c0.put.new.s 0 ≡ start.args.c =
     ap (λ (l : List ℕ). held far l 0) c0.put.ensures ∙ started true _ start.args.c start.requires (λ n h. zeros_at 13467 n) in
-    c.before.near-in.ensures
+    c.near_in.ensures
     ∙ ap (λ (x : ℕ). bit_xor x 0xFFFF_FFFF)
-    (c2.far-message.ensures ∙ c1.take_in.ensures.0 ∙ ap (λ (x : ℕ). crc_from x start.args.s.now) register)
+    (c2.far_message.ensures ∙ c1.take_in-at.ensures.0 ∙ ap (λ (x : ℕ). crc_from x start.args.s.now) register)
 
 pub by_far_spec : {M : Type 1} → statement M
 by_far_spec =

@@ -13,26 +13,26 @@ use Rattle.crc32c.specs.Start.{far_turn}
 use Rattle.crc32c.proofs.window.run_far.Statement.{statement}
 use Rattle.crc32c.proofs.window.run_far.Tie as tie
 
-abbrev invariant-loop : tie.invariant-loop
-invariant-loop w₀ s i₀ w i = (i ≤ length s) × ((length w ≡ length w₀) × (crc_from (held far w i) (drop i s) ≡ crc_from (held far w₀ 0) s))
+abbrev invariant-loop-i : tie.invariant-loop-i
+invariant-loop-i w₀ s i₀ w i = (i ≤ length s) × ((length w ≡ length w₀) × (crc_from (held far w i) (drop i s) ≡ crc_from (held far w₀ 0) s))
 
-abbrev decreases-loop : tie.decreases-loop
-decreases-loop w₀ s i₀ w i = length s - i
+abbrev decreases-loop-i : tie.decreases-loop-i
+decreases-loop-i w₀ s i₀ w i = length s - i
 
-loop-holds : tie.Need-loop-init invariant-loop decreases-loop
+loop-holds : tie.Need-loop-i-init invariant-loop-i decreases-loop-i
 loop-holds c = (omega arith, (refl, refl))
 
-loop-again : tie.Need-loop-preserved invariant-loop decreases-loop
+loop-again : tie.Need-loop-i-preserved invariant-loop-i decreases-loop-i
 loop-again c =
-    let l = c.before.before.before.before.before.loop in
-    let s = c.before.before.before.before.before.before.args.s.now in
-    let hb : get_or l.w l.i 0 < 256 = omega (arith, c.slice-known3.given l.i) in
+    let l = c.loop-i in
+    let s = c.args.s.now in
+    let hb : get_or l.w l.i 0 < 256 = omega (arith, c.slice_known-in-loop-i-2-1.given l.i) in
     (omega arith, (search rules, far_turn l.w s l.i (omega arith) (omega arith) hb ∙ l.invariant.1.1))
 
-returns : tie.Need-returns invariant-loop decreases-loop
+returns : tie.Need-returns invariant-loop-i decreases-loop-i
 returns c =
-    let l = c.before.loop in
-    let s = c.before.before.args.s.now in
+    let l = c.loop-i in
+    let s = c.args.s.now in
     let e : length s ≡ l.i = omega arith in
     ap (λ (n : ℕ). held far l.w n) e ∙ sym (crc_from_end (held far l.w l.i) s l.i (omega arith)) ∙ l.invariant.1.1
 
@@ -40,6 +40,6 @@ pub run_far_spec : {M : Type 1} → statement M
 run_far_spec =
     tie.close
     (tie.spec
-    invariant-loop decreases-loop loop-holds (λ c. omega arith) (λ c. omega arith) (λ c. omega arith) (λ c. omega arith)
+    invariant-loop-i decreases-loop-i loop-holds (λ c. omega arith) (λ c. omega arith) (λ c. omega arith) (λ c. omega arith)
     (λ c. omega arith) (λ c. omega arith) (λ c. omega arith) (λ c. omega arith) (λ c. omega arith)
     (λ c. omega arith) loop-again (search rules) returns)

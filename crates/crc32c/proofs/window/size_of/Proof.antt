@@ -6,13 +6,13 @@ use borrow.Author.Rules.{rules}
 use Rattle.crc32c.proofs.window.size_of.Statement.{statement}
 use Rattle.crc32c.proofs.window.size_of.Tie as tie
 
-returns : tie.Need-returns
+returns : tie.Need-returns-then-by_far
 unfolding size_of
-returns c = sym (ap size_of c.if1.true)
+returns c = sym (ap size_of c.if-by_far.true)
 
-returns-2 : tie.Need-returns-2
+returns-2 : tie.Need-returns-else-by_far
 unfolding size_of
-returns-2 c = sym (ap size_of c.if1.false)
+returns-2 c = sym (ap size_of c.if-by_far.false)
 
 pub size_of_spec : {M : Type 1} → statement M
 size_of_spec = tie.close (tie.spec returns returns-2)

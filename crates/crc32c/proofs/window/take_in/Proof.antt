@@ -11,39 +11,39 @@ use Rattle.crc32c.specs.Start.{reach_of, size_of}
 use Rattle.crc32c.proofs.window.take_in.Statement.{statement}
 use Rattle.crc32c.proofs.window.take_in.Tie as tie
 
-abbrev invariant-loop : tie.invariant-loop
-invariant-loop w₀ s by-far at₀ w at =
+abbrev invariant-loop-at : tie.invariant-loop-at
+invariant-loop-at w₀ s by-far at₀ w at =
     (at ≤ length s) × ((length w ≡ length w₀) × (crc_from (held (reach_of by-far) w 0) (drop at s) ≡ crc_from (held (reach_of by-far) w₀ 0) s))
 
-abbrev decreases-loop : tie.decreases-loop
-decreases-loop w₀ s by-far at₀ w at = length s - at
+abbrev decreases-loop-at : tie.decreases-loop-at
+decreases-loop-at w₀ s by-far at₀ w at = length s - at
 
-loop-holds : tie.Need-loop-init invariant-loop decreases-loop
+loop-holds : tie.Need-loop-at-init invariant-loop-at decreases-loop-at
 loop-holds c = (omega arith, (refl, refl))
 
-loop-again : tie.Need-loop-preserved invariant-loop decreases-loop
+loop-again : tie.Need-loop-at-preserved invariant-loop-at decreases-loop-at
 loop-again c =
-    let l = c.before.before.before.before.before.before.before.before.before.before.loop in
-    let a = c.before.before.before.before.before.before.before.before.before.before.before.before.before.args in (
+    let l = c.loop-at in
+    let a = c.args in (
       omega arith,
       (
         omega arith,
-        part_turn (reach_of a.by-far) l.w _ _ a.s.now l.at (l.at + 8192) 8192 refl (omega arith)
-            c.before.before.before.before.before.before.run.ensures c.before.before.bring-down.ensures
+        part_turn (reach_of a.by_far) l.w _ _ a.s.now l.at (l.at + 8192) 8192 refl (omega arith)
+            c.run.ensures c.bring_down.ensures
             ∙ l.invariant.1.1,
       ),
     )
 
-returns : tie.Need-returns invariant-loop decreases-loop
+returns : tie.Need-returns invariant-loop-at decreases-loop-at
 returns c =
-    let l = c.before.before.before.before.before.before.loop in
-    let a = c.before.before.before.before.before.before.before.before.before.args in
-    (part_last (reach_of a.by-far) l.w _ a.s.now l.at c.before.before.run2.ensures ∙ l.invariant.1.1, omega arith)
+    let l = c.loop-at in
+    let a = c.args in
+    (part_last (reach_of a.by_far) l.w _ a.s.now l.at c.run-2.ensures ∙ l.invariant.1.1, omega arith)
 
 pub take_in_spec : {M : Type 1} → statement M
 take_in_spec =
     tie.close
     (tie.spec
-    invariant-loop decreases-loop loop-holds (λ c. omega arith) (λ c. omega arith) (λ c. omega arith) (λ c. omega arith) (λ c. omega arith) (λ c. omega arith)
+    invariant-loop-at decreases-loop-at loop-holds (λ c. omega arith) (λ c. omega arith) (λ c. omega arith) (λ c. omega arith) (λ c. omega arith) (λ c. omega arith)
     (λ c. omega arith) (λ c. omega arith) loop-again (λ c. omega arith) (λ c. omega arith) (λ c. omega arith) (λ c. omega arith) (λ c. omega arith)
     (λ c. omega arith) returns)

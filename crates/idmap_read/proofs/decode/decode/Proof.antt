@@ -7,32 +7,32 @@ use borrow.Author.Rules.{rules}
 use Rattle.idmap_read.proofs.decode.decode.Statement.{statement}
 use Rattle.idmap_read.proofs.decode.decode.Tie as tie
 
-returns : tie.Need-returns
+returns : tie.Need-returns-then-s-lt7
 returns c = broken _ _ (head_short _ _ (omega arith) (omega arith) (omega arith))
 
-returns-2 : tie.Need-returns-2
+returns-2 : tie.Need-returns-then-u32_at-count
 returns-2 c = broken _ _ (head_count _ _ (omega arith) (omega arith) (omega arith) (omega arith))
 
-returns-3 : tie.Need-returns-3
+returns-3 : tie.Need-returns-then-r-ne0
 returns-3 c = broken _ _ (head_raw_interval _ _ (omega arith) (omega arith) (omega arith) (omega arith) (omega arith) (omega arith))
 
-returns-4 : tie.Need-returns-4
+returns-4 : tie.Need-returns-then-s-eq0
 returns-4 c =
-    let s = c.before.before.before.before.before.before.before.before.before.before.before.before.before in
+    let s = c in
     let e = head_raw s.args.count s.args.s.now (omega arith) (omega arith) (omega arith) (omega arith) (omega arith) (omega arith) in
-    rw e c.before.before.decode-raw.ensures
+    rw e c.decode_raw.ensures
 
-returns-5 : tie.Need-returns-5
+returns-5 : tie.Need-returns-then-r-eq0
 returns-5 c = broken _ _ (head_delta_interval _ _ (omega arith) (omega arith) (omega arith) (omega arith) (omega arith) (omega arith))
 
-returns-6 : tie.Need-returns-6
+returns-6 : tie.Need-returns-then-s-eq1
 returns-6 c =
-    let ua = c.before.before.before.before.before.before.before.before.before in
-    let s = ua.before.before.before.before.before.before in
+    let ua = c in
+    let s = ua in
     let e = head_delta s.args.count s.args.s.now (omega arith) (omega arith) (omega arith) (omega arith) (omega arith) (omega arith) in
-    rw (e, ← ua.u16-at.ensures) c.before.before.decode-delta.ensures
+    rw (e, ← ua.u16_at-r.ensures) c.decode_delta.ensures
 
-returns-7 : tie.Need-returns-7
+returns-7 : tie.Need-returns
 returns-7 c = broken _ _ (head_other _ _ (omega arith) (omega arith) (omega arith) (omega arith) (omega arith) (omega arith))
 
 pub decode_spec : {M : Type 1} → statement M

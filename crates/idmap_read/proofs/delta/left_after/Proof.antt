@@ -8,20 +8,20 @@ use borrow.Author.Rules.{rules}
 use Rattle.idmap_read.proofs.delta.left_after.Statement.{statement}
 use Rattle.idmap_read.proofs.delta.left_after.Tie as tie
 
-sub-result : tie.Need-overflow-sub-result
+sub-result : tie.Need-overflow_sub-result
 sub-result c = search rules
 
-sub-result-2 : tie.Need-overflow-sub-result-2
+sub-result-2 : tie.Need-overflow_sub-result-else-left-eq0
 sub-result-2 c = search rules
 
-returns : tie.Need-returns
+returns : tie.Need-returns-then-left-eq0
 unfolding left_after
-returns c = rw c.if1.true
+returns c = rw c.if-left-eq0.true
 
-returns-2 : tie.Need-returns-2
+returns-2 : tie.Need-returns-else-left-eq0
 unfolding left_after
 returns-2 c =
-    let left = c.before.args.left in
+    let left = c.args.left in
     let e : left ≡ suc (left - 1) = omega arith in
     rw e (omega arith)
 

@@ -8,38 +8,38 @@ use borrow.Author.Rules.{rules}
 use Rattle.idmap_read.proofs.delta.next_id.Statement.{statement}
 use Rattle.idmap_read.proofs.delta.next_id.Tie as tie
 
-u32-at-requires : tie.Need-u32-at-requires
-u32-at-requires c κs = c.before.before.requires.0 c.if1.true
+u32-at-requires : tie.Need-u32_at-requires
+u32-at-requires c κs = c.requires.0 c.if-left-eq0.true
 
-returns : tie.Need-returns
-returns c = next_place _ _ _ _ _ c.before.before.if1.true (λ e. c.if2.true (c.before.u32-at.ensures ∙ e))
+returns : tie.Need-returns-then-u32_at-at
+returns c = next_place _ _ _ _ _ c.if-left-eq0.true (λ e. c.if-u32_at-at.true (c.u32_at.ensures ∙ e))
 
-returns-2 : tie.Need-returns-2
+returns-2 : tie.Need-returns-then-follows
 returns-2 c =
-    let e2 = c.before.before in
-    next_start _ _ _ _ _ e2.before.before.if1.true (sym e2.before.u32-at.ensures ∙ e2.if2.false)
-    (sym c.before.follows.ensures ∙ c.if3.true)
+    let e2 = c in
+    next_start _ _ _ _ _ e2.if-left-eq0.true (sym e2.u32_at.ensures ∙ e2.if-u32_at-at.false)
+    (sym c.follows.ensures ∙ c.if-follows.true)
 
-returns-3 : tie.Need-returns-3
+returns-3 : tie.Need-returns-then-left-eq0
 returns-3 c =
-    let e2 = c.before.before in
-    next_low _ _ _ _ _ e2.before.before.if1.true (sym e2.before.u32-at.ensures ∙ e2.if2.false)
-    (sym c.before.follows.ensures ∙ c.if3.false)
+    let e2 = c in
+    next_low _ _ _ _ _ e2.if-left-eq0.true (sym e2.u32_at.ensures ∙ e2.if-u32_at-at.false)
+    (sym c.follows.ensures ∙ c.if-follows.false)
 
-returns-4 : tie.Need-returns-4
-returns-4 c = next_none _ _ _ _ _ (omega arith) c.if4.true
+returns-4 : tie.Need-returns-then-value-eq0
+returns-4 c = next_none _ _ _ _ _ (omega arith) c.if-value-eq0.true
 
-returns-5 : tie.Need-returns-5
+returns-5 : tie.Need-returns-then-value-prev
 returns-5 c =
-    let s = c.before.before.before.before in
-    let some : s.args.i ≡ 0 → ⊥ = λ z. c.before.before.if1.false (s.requires.1 z) in
+    let s = c in
+    let some : s.args.i ≡ 0 → ⊥ = λ z. c.if-left-eq0.false (s.requires.1 z) in
     let low = low_some s.args.i s.args.prev (omega arith) in
     next_over _ _ _ _ _ (omega arith) (omega arith) (omega arith)
 
-returns-6 : tie.Need-returns-6
+returns-6 : tie.Need-returns
 returns-6 c =
-    let s = c.before.before.before.before in
-    let some : s.args.i ≡ 0 → ⊥ = λ z. c.before.before.if1.false (s.requires.1 z) in
+    let s = c in
+    let some : s.args.i ≡ 0 → ⊥ = λ z. c.if-left-eq0.false (s.requires.1 z) in
     let low = low_some s.args.i s.args.prev (omega arith) in
     next_sum _ _ _ _ _ (omega arith) (omega arith) (omega arith) _ (omega arith)
 

@@ -7,28 +7,28 @@ use borrow.Author.Rules.{rules}
 use Rattle.varint.proofs.write.encoded_len.Statement.{statement}
 use Rattle.varint.proofs.write.encoded_len.Tie as tie
 
-abbrev invariant-loop : tie.invariant-loop
-invariant-loop x d₀ rest₀ d rest = (WrittenSoFar x d rest) × (d ≤ 9)
+abbrev invariant-loop-rest : tie.invariant-loop-rest
+invariant-loop-rest x d₀ rest₀ d rest = (WrittenSoFar x d rest) × (d ≤ 9)
 
-abbrev decreases-loop : tie.decreases-loop
-decreases-loop x d₀ rest₀ d rest = rest
+abbrev decreases-loop-rest : tie.decreases-loop-rest
+decreases-loop-rest x d₀ rest₀ d rest = rest
 
-loop-holds : tie.Need-loop-init invariant-loop decreases-loop
+loop-holds : tie.Need-loop-rest-init invariant-loop-rest decreases-loop-rest
 loop-holds c = (stands_first _ (omega arith), omega arith)
 
-loop-again : tie.Need-loop-preserved invariant-loop decreases-loop
+loop-again : tie.Need-loop-rest-preserved invariant-loop-rest decreases-loop-rest
 loop-again c =
-    let l = c.before.loop in
-    let s = stands_more _ _ _ l.invariant.0 c.loop-test.true in
+    let l = c.before.loop-rest in
+    let s = stands_more _ _ _ l.invariant.0 c.loop-rest-test.true in
     (s, s.at_most)
 
-returns : tie.Need-returns invariant-loop decreases-loop
+returns : tie.Need-returns invariant-loop-rest decreases-loop-rest
 returns c =
-    let l = c.before.loop in
-    (last_length _ _ _ (stands_last _ _ _ l.invariant.0 c.loop-test.false), omega arith)
+    let l = c.before.loop-rest in
+    (last_length _ _ _ (stands_last _ _ _ l.invariant.0 c.loop-rest-test.false), omega arith)
 
 pub encoded_len_spec : {M : Type 1} → statement M
 encoded_len_spec =
     tie.close
     (tie.spec
-    invariant-loop decreases-loop loop-holds (search rules) (search rules) loop-again (search rules) returns)
+    invariant-loop-rest decreases-loop-rest loop-holds (search rules) (search rules) loop-again (search rules) returns)

@@ -7,10 +7,10 @@ use borrow.Author.Rules.{rules}
 use Rattle.varint.proofs.write.write.Statement.{statement}
 use Rattle.varint.proofs.write.write.Tie as tie
 
-returns : tie.Need-returns
+returns : tie.Need-returns-then-out-encoded_len
 returns c = write_short _ _ 0 refl (omega arith)
 
-returns-2 : tie.Need-returns-2
+returns-2 : tie.Need-returns
 returns-2 c = write_done _ _ 0 _ _ refl (omega arith) (omega arith) (cc)
 
 pub write_spec : {M : Type 1} → statement M
