@@ -8,14 +8,14 @@ use borrow.Author.Rules.{rules}
 use Rattle.crc_join.proofs.extend_by.Statement.{statement}
 use Rattle.crc_join.proofs.extend_by.Tie as tie
 
-cast-result : tie.Need-overflow-cast-result
+cast-result : tie.Need-overflow_cast-result-2
 cast-result c =
-    let a = c.before.before.before.before.args in
+    let a = c.args in
     omega (arith, xor_lt 32 c.zeros.result a.known c.zeros.ensures.1 (omega arith))
 
-returns-3 : tie.Need-returns-3
+returns-3 : tie.Need-returns
 returns-3 c =
-    let s = c.before.before.before.before in
+    let s = c in
     extended_joined s.args.sum s.args.known s.args.«data».now c.zeros.result _ s.requires c.zeros.ensures.0 refl
 
 pub extend_by_spec : {M : Type 1} → statement M

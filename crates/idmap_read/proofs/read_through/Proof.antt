@@ -11,20 +11,20 @@ returns : tie.Need-returns-then-ids-count
 returns c =
     let d = c in
     let s = d in
-    read_short s.args.count s.args.s.now _ _ (sym d.decode-m.ensures.0 ∙ c.m-in-Length-1.given.1) (omega arith)
+    read_short s.args.count s.args.s.now _ _ (sym d.decode-m.ensures.0 ∙ c.in-Length.is) (omega arith)
 
 returns-2 : tie.Need-returns-in-Refused
 returns-2 c =
     let d = c in
     let s = d in
-    read_broken s.args.count s.args.s.now _ _ (sym d.decode-m.ensures.0 ∙ c.m.given.1)
+    read_broken s.args.count s.args.s.now _ _ (sym d.decode-m.ensures.0 ∙ c.in-Refused.is)
 
 returns-3 : tie.Need-returns-else-ids-count
 returns-3 c =
     let m = c in
     let d = m in
     let s = d in
-    read_done s.args.count s.args.s.now _ _ (sym d.decode-m.ensures.0 ∙ m.m-in-Length-1.given.1) _ _
+    read_done s.args.count s.args.s.now _ _ (sym d.decode-m.ensures.0 ∙ m.in-Length.is) _ _
     d.decode-m.ensures.1 (omega arith) c.copy_ids.ensures
 
 pub read_through_spec : {M : Type 1} → statement M

@@ -6,7 +6,7 @@ use Rattle.segment.proofs.hash_by.Statement.{statement}
 use Rattle.segment.proofs.hash_by.Tie as tie
 
 returns : tie.Need-returns
-returns c = hash_laid _ _ c.before.put.ensures
+returns c = hash_laid _ _ c.put.ensures
 
 pub hash_by_spec : {M : Type 1} → statement M
 hash_by_spec = tie.close (tie.spec (search rules) (search rules) returns)

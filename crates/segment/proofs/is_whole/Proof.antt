@@ -7,13 +7,13 @@ use borrow.Author.Rules.{rules}
 use Rattle.segment.proofs.is_whole.Statement.{statement}
 use Rattle.segment.proofs.is_whole.Tie as tie
 
-is-whole-by-requires : tie.Need-is-whole-by-requires
+is-whole-by-requires : tie.Need-is_whole_by-requires
 is-whole-by-requires c κs =
-    let s = c.before.before.before in
+    let s = c in
     (s.requires, c.checksum.ensures ∙ ap crc_of (payload_part s.args.file.now s.args.at s.args.len))
 
 returns : tie.Need-returns
-returns c = c.is-whole-by.ensures
+returns c = c.is_whole_by.ensures
 
 pub is_whole_spec : {M : Type 1} → statement M
 is_whole_spec =

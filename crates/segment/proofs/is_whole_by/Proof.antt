@@ -8,8 +8,8 @@ use Rattle.segment.proofs.is_whole_by.Tie as tie
 
 returns : tie.Need-returns
 returns c =
-    let h = c.before.before.before in
-    whole_by _ _ _ _ _ c.same.ensures (hash_of _ _ _ h.before.before.requires.1 h.hash-by.ensures)
+    let h = c in
+    whole_by _ _ _ _ _ c.same.ensures (hash_of _ _ _ h.requires.1 h.hash_by-hash.ensures)
 
 pub is_whole_by_spec : {M : Type 1} → statement M
 is_whole_by_spec =

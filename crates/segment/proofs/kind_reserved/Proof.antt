@@ -5,10 +5,10 @@ use Rattle.segment.specs.HeaderLaws.{reserved_low, reserved_high}
 use Rattle.segment.proofs.kind_reserved.Statement.{statement}
 use Rattle.segment.proofs.kind_reserved.Tie as tie
 
-returns : tie.Need-returns
+returns : tie.Need-returns-then-kind-lt14
 returns c = reserved_low _ (omega arith)
 
-returns-2 : tie.Need-returns-2
+returns-2 : tie.Need-returns
 returns-2 c = reserved_high _ (omega arith)
 
 pub kind_reserved_spec : {M : Type 1} → statement M

@@ -63,16 +63,16 @@ unfolding groups
 returns-2 c =
     let x = c in
     let l = x in
-    let w = first_refused _ _ _ _ _ _ _ _ _ l.loop-i.invariant.0 (omega arith) (l.loop-i.invariant.1.0 (omega arith)) x.x.given.0.0
-    (sym x.id_at-x.ensures ∙ x.x.given.1) in
+    let w = first_refused _ _ _ _ _ _ _ _ _ l.loop-i.invariant.0 (omega arith) (l.loop-i.invariant.1.0 (omega arith)) x.in-Refused.number
+    (sym x.id_at-x.ensures ∙ x.in-Refused.is) in
     broken_by _ _ _ w.0 (delta_room l.args.r _ _ (omega arith) ∙ w.1)
 
 add-pos : tie.Need-overflow_add-pos invariant-loop-i-2 decreases-loop-i-2 invariant-loop-i decreases-loop-i
 add-pos c =
     let x = c in
     let l = x in
-    let n = first_next _ _ _ _ _ _ _ _ _ l.loop-i.invariant.0 (omega arith) (l.loop-i.invariant.1.0 (omega arith)) x.x-in-Id-1.given.0.0
-    x.x-in-Id-1.given.0.1.0 (sym x.id_at-x.ensures ∙ x.x-in-Id-1.given.1) (omega arith) (omega arith) in
+    let n = first_next _ _ _ _ _ _ _ _ _ l.loop-i.invariant.0 (omega arith) (l.loop-i.invariant.1.0 (omega arith)) x.in-Id.id
+    x.in-Id.length (sym x.id_at-x.ensures ∙ x.in-Id.is) (omega arith) (omega arith) in
     let fits = n.inside in
     omega arith
 
@@ -84,8 +84,8 @@ loop2-holds c =
     let x = c in
     let l = x in
     let r = l.args.r in
-    let n = first_next _ _ _ _ _ _ _ _ _ l.loop-i.invariant.0 (omega arith) (l.loop-i.invariant.1.0 (omega arith)) x.x-in-Id-1.given.0.0
-    x.x-in-Id-1.given.0.1.0 (sym x.id_at-x.ensures ∙ x.x-in-Id-1.given.1) (omega arith) (omega arith) in
+    let n = first_next _ _ _ _ _ _ _ _ _ l.loop-i.invariant.0 (omega arith) (l.loop-i.invariant.1.0 (omega arith)) x.in-Id.id
+    x.in-Id.length (sym x.id_at-x.ensures ∙ x.in-Id.is) (omega arith) (omega arith) in
     let z = l.loop-i.invariant.1.0 (omega arith) in
     let group = l.loop-i.invariant.0.group in
     let m : (l.loop-i.g + 1) * r ≡ l.loop-i.g * r + r = rw add-one (suc-mul _ _) in
@@ -125,16 +125,16 @@ returns-3 c =
     let x = c in
     let l = x in
     let s = l in
-    let w = inside_refused _ _ _ _ _ _ _ _ _ l.loop-i-2.invariant.0.at (omega arith) (omega arith) _ (omega arith) x.x-in-Refused-x-2-1.given.0.0
-    (sym x.id_at-x-in-loop-i-2.ensures ∙ x.x-in-Refused-x-2-1.given.1) in
+    let w = inside_refused _ _ _ _ _ _ _ _ _ l.loop-i-2.invariant.0.at (omega arith) (omega arith) _ (omega arith) x.in-Refused-x.number
+    (sym x.id_at-x-in-loop-i-2.ensures ∙ x.in-Refused-x.is) in
     broken_by _ _ _ w.0 (delta_room s.args.r _ _ (omega arith) ∙ w.1)
 
 add-pos-2 : tie.Need-overflow_add-pos-in-Id-x invariant-loop-i-2 decreases-loop-i-2 invariant-loop-i decreases-loop-i
 add-pos-2 c =
     let x = c in
     let l = x in
-    let n = inside_next _ _ _ _ _ _ _ _ _ l.loop-i-2.invariant.0.at (omega arith) (omega arith) _ (omega arith) x.x-in-Id-x-2-1.given.0.0
-    x.x-in-Id-x-2-1.given.0.1.0 (sym x.id_at-x-in-loop-i-2.ensures ∙ x.x-in-Id-x-2-1.given.1)
+    let n = inside_next _ _ _ _ _ _ _ _ _ l.loop-i-2.invariant.0.at (omega arith) (omega arith) _ (omega arith) x.in-Id-x.id
+    x.in-Id-x.length (sym x.id_at-x-in-loop-i-2.ensures ∙ x.in-Id-x.is)
     l.requires.1.1.0 (omega arith) in
     let fits = n.inside in
     omega arith
@@ -143,10 +143,10 @@ loop2-again : tie.Need-loop-i-2-preserved invariant-loop-i-2 decreases-loop-i-2 
 loop2-again c =
     let x = c in
     let l = x in
-    let n = inside_next _ _ _ _ _ _ _ _ _ l.loop-i-2.invariant.0.at (omega arith) (omega arith) _ (omega arith) x.x-in-Id-x-2-1.given.0.0
-    x.x-in-Id-x-2-1.given.0.1.0 (sym x.id_at-x-in-loop-i-2.ensures ∙ x.x-in-Id-x-2-1.given.1)
+    let n = inside_next _ _ _ _ _ _ _ _ _ l.loop-i-2.invariant.0.at (omega arith) (omega arith) _ (omega arith) x.in-Id-x.id
+    x.in-Id-x.length (sym x.id_at-x-in-loop-i-2.ensures ∙ x.in-Id-x.is)
     l.requires.1.1.0 (omega arith) in
-    let m = length-set l.loop-i-2.ids l.loop-i-2.i x.x-in-Id-x-2-1.given.0.0 in (
+    let m = length-set l.loop-i-2.ids l.loop-i-2.i x.in-Id-x.id in (
       record {
         at = n;
         inside = omega arith;

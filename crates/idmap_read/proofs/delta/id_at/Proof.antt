@@ -12,23 +12,23 @@ next-id-requires c κs = c.requires.0
 returns : tie.Need-returns-in-Refused
 returns c =
     let v = c in
-    at_bad _ _ _ _ _ v.v.given.0.0 (sym v.read_at-v.ensures ∙ v.v.given.1)
+    at_bad _ _ _ _ _ v.in-Refused.number (sym v.read_at-v.ensures ∙ v.in-Refused.is)
 
 returns-2 : tie.Need-returns-in-Refused-x
 returns-2 c =
     let x = c in
     let v = x in
-    at_refused _ _ _ _ _ v.v-in-Value-1.given.0.0 v.v-in-Value-1.given.0.1.0
-    (sym v.read_at-v.ensures ∙ v.v-in-Value-1.given.1) x.x.given.0.0
-    (sym x.next_id-x.ensures ∙ x.x.given.1)
+    at_refused _ _ _ _ _ v.in-Value.value v.in-Value.length
+    (sym v.read_at-v.ensures ∙ v.in-Value.is) x.in-Refused-x.number
+    (sym x.next_id-x.ensures ∙ x.in-Refused-x.is)
 
 returns-3 : tie.Need-returns-in-Id
 returns-3 c =
     let x = c in
     let v = x in
-    at_id _ _ _ _ _ v.v-in-Value-1.given.0.0 v.v-in-Value-1.given.0.1.0
-    (sym v.read_at-v.ensures ∙ v.v-in-Value-1.given.1) x.x-in-Id-1.given.0.0
-    (sym x.next_id-x.ensures ∙ x.x-in-Id-1.given.1)
+    at_id _ _ _ _ _ v.in-Value.value v.in-Value.length
+    (sym v.read_at-v.ensures ∙ v.in-Value.is) x.in-Id.id
+    (sym x.next_id-x.ensures ∙ x.in-Id.is)
 
 pub id_at_spec : {M : Type 1} → statement M
 id_at_spec =

@@ -9,50 +9,50 @@ use borrow.Author.Rules.{rules}
 use Rattle.segment.proofs.link.link_at.Statement.{statement}
 use Rattle.segment.proofs.link.link_at.Tie as tie
 
-returns : tie.Need-returns
+returns : tie.Need-returns-then-file-at
 returns c = step_short _ _ _ _ (omega arith)
 
-returns-2 : tie.Need-returns-2
+returns-2 : tie.Need-returns-then-left-lt64
 returns-2 c = step_short _ _ _ _ (omega arith)
 
-returns-3 : tie.Need-returns-3
-returns-3 c = let r = round64_ge c.before.u64-at.result in step_cut _ _ _ _ _ c.before.u64-at.ensures (omega arith) (omega arith)
+returns-3 : tie.Need-returns-then-declared-room
+returns-3 c = let r = round64_ge c.u64_at-declared.result in step_cut _ _ _ _ _ c.u64_at-declared.ensures (omega arith) (omega arith)
 
-returns-4 : tie.Need-returns-4
-returns-4 c = step_cut _ _ _ _ _ c.before.before.before.u64-at.ensures (omega arith) (omega arith)
+returns-4 : tie.Need-returns-then-room-padded
+returns-4 c = step_cut _ _ _ _ _ c.u64_at-declared.ensures (omega arith) (omega arith)
 
-returns-5 : tie.Need-returns-5
+returns-5 : tie.Need-returns-then-not-header_sound
 returns-5 c =
-    let ru = c.before.before.before in
-    step_unsound _ _ _ _ _ _ ru.before.before.u64-at.ensures ru.round_up.ensures (omega arith)
-    (sym c.before.header-sound.ensures ∙ not-true _ c.if5.true)
+    let ru = c in
+    step_unsound _ _ _ _ _ _ ru.u64_at-declared.ensures ru.round_up-padded.ensures (omega arith)
+    (sym c.header_sound.ensures ∙ c.if-not-header_sound.true)
 
-sub-is-zero : tie.Need-overflow-sub-is-zero
+sub-is-zero : tie.Need-slice_bounds-is_zero-count
 sub-is-zero c =
-    let ru = c.before.before.before in
-    let r = round64_ge ru.before.before.u64-at.result in omega (arith, ru.round_up.ensures)
+    let ru = c in
+    let r = round64_ge ru.u64_at-declared.result in omega (arith, ru.round_up-padded.ensures)
 
 part-is-zero-start : tie.Need-slice-bounds-is-zero-start
 part-is-zero-start c =
-    let ru = c.before.before.before in
-    let r = round64_ge ru.before.before.u64-at.result in omega (arith, ru.round_up.ensures)
+    let ru = c in
+    let r = round64_ge ru.u64_at-declared.result in omega (arith, ru.round_up-padded.ensures)
 
-returns-6 : tie.Need-returns-6
+returns-6 : tie.Need-returns-then-not-is_zero
 returns-6 c =
-    let e5 = c.before.before.before in
-    let ru = e5.before.before.before in
-    step_padding _ _ _ _ _ _ ru.before.before.u64-at.ensures ru.round_up.ensures (omega arith)
-    (sym e5.before.header-sound.ensures ∙ not-false _ e5.if5.false) (sym c.before.is_zero.ensures ∙ not-true _ c.if6.true)
+    let e5 = c in
+    let ru = e5 in
+    step_padding _ _ _ _ _ _ ru.u64_at-declared.ensures ru.round_up-padded.ensures (omega arith)
+    (sym e5.header_sound.ensures ∙ e5.if-not-header_sound.false) (sym c.is_zero.ensures ∙ c.if-not-is_zero.true)
 
-returns-7 : tie.Need-returns-7
+returns-7 : tie.Need-returns
 returns-7 c =
-    let e6 = c.before.before.before in
-    let e5 = e6.before.before.before in
-    let ru = e5.before.before.before in
-    step_sound _ _ _ _ _ _ ru.before.before.u64-at.ensures ru.round_up.ensures (omega arith)
-    (sym e5.before.header-sound.ensures ∙ not-false _ e5.if5.false)
-    (sym e6.before.is_zero.ensures ∙ not-false _ e6.if6.false) _ _ c.before.before.u64-at2.ensures
-    c.u16-at.ensures
+    let e6 = c in
+    let e5 = e6 in
+    let ru = e5 in
+    step_sound _ _ _ _ _ _ ru.u64_at-declared.ensures ru.round_up-padded.ensures (omega arith)
+    (sym e5.header_sound.ensures ∙ e5.if-not-header_sound.false)
+    (sym e6.is_zero.ensures ∙ e6.if-not-is_zero.false) _ _ c.u64_at.ensures
+    c.u16_at.ensures
 
 pub link_at_spec : {M : Type 1} → statement M
 link_at_spec =

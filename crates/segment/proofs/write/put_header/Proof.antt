@@ -5,7 +5,7 @@ use Rattle.segment.proofs.write.put_header.Statement.{statement}
 use Rattle.segment.proofs.write.put_header.Tie as tie
 
 returns : tie.Need-returns
-returns c = rw c.before.before.before.before.before.header_of.ensures at c.before.before.copy.ensures
+returns c = rw c.header_of-h.ensures at c.copy.ensures
 
 pub put_header_spec : {M : Type 1} → statement M
 put_header_spec = tie.close (tie.spec (search rules) (search rules) (search rules) (search rules) returns)

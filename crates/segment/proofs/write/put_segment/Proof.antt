@@ -11,30 +11,30 @@ use Rattle.segment.proofs.write.put_segment.Tie as tie
 
 copy-requires : tie.Need-copy-requires
 copy-requires c κs =
-    let ph = c.before.before.before in
-    let s = ph.before.before.before.before.before.before in
-    let r = round64_ge (length s.args.payload.now) in simp (length-take, length-drop) (omega (arith, ph.put-header.auto.0, s.requires.0))
+    let ph = c in
+    let s = ph in
+    let r = round64_ge (length s.args.payload.now) in simp (length-take, length-drop) (omega (arith, ph.put_header.auto.buf, s.requires.0))
 
-sub-clear : tie.Need-overflow-sub-clear
+sub-clear : tie.Need-slice_bounds-clear-count
 sub-clear c =
-    let ru = c.before.before.before.before.before.before.before.before.before in
-    let r = round64_ge (length ru.before.before.before.args.payload.now) in omega (arith, ru.round_up.ensures)
+    let ru = c in
+    let r = round64_ge (length ru.args.payload.now) in omega (arith, ru.round_up.ensures)
 
 part-clear-start : tie.Need-slice-bounds-clear-start
 part-clear-start c =
-    let ru = c.before.before.before.before.before.before.before.before.before in
-    let r = round64_ge (length ru.before.before.before.args.payload.now) in omega (arith, ru.round_up.ensures)
+    let ru = c in
+    let r = round64_ge (length ru.args.payload.now) in omega (arith, ru.round_up.ensures)
 
 returns : tie.Need-returns
 returns c =
-    let c' = c.before.before.before.before.before.before in
-    let ph = c'.before.before.before.before in
-    let ru = ph.before.before.before in
-    let s = ru.before.before.before in (
+    let c' = c in
+    let ph = c' in
+    let ru = ph in
+    let s = ru in (
       segment_size _ _ _ _ _ _ ru.round_up.ensures,
       padding_laid _ _ _ _ _ _ s.requires.0 _ _ _ ru.round_up.ensures
-          (payload_laid _ _ _ _ _ _ s.requires.0 _ _ _ (hash_of _ _ _ s.requires.1 ph.before.before.hash-by.ensures) ph.put-header.ensures c'.copy.ensures)
-          c.before.before.clear.ensures,
+          (payload_laid _ _ _ _ _ _ s.requires.0 _ _ _ (hash_of _ _ _ s.requires.1 ph.hash_by-hash.ensures) ph.put_header.ensures c'.copy.ensures)
+          c.clear.ensures,
     )
 
 pub put_segment_spec : {M : Type 1} → statement M
