@@ -8,44 +8,44 @@ use borrow.Author.Rules.{rules}
 use Rattle.idmap_write.proofs.encoded_len.Statement.{statement}
 use Rattle.idmap_write.proofs.encoded_len.Tie as tie
 
-raws : (c : tie.Then1) → Raw c.before.before.args.ids.now c.before.before.args.encoding c.before.before.args.interval
-raws c = raw_facts _ _ _ c.before.before.requires c.if1.true
+raws : (c : tie.Then-encoding-eq0) → Raw c.args.ids.now c.args.encoding c.args.interval
+raws c = raw_facts _ _ _ c.requires c.if-encoding-eq0.true
 
-deltas : (c : tie.After-interval-of) → Delta c.before.before.before.args.ids.now
-    c.before.before.before.args.encoding c.before.before.before.args.interval c.interval-of.result
-deltas c = delta_facts _ _ _ _ c.before.before.before.requires c.before.if1.false c.interval-of.ensures
+deltas : (c : tie.After-interval_of-r) → Delta c.args.ids.now
+    c.args.encoding c.args.interval c.interval_of-r.result
+deltas c = delta_facts _ _ _ _ c.requires c.if-encoding-eq0.false c.interval_of-r.ensures
 
-returns : tie.Need-returns
+returns : tie.Need-returns-then-encoding-eq0
 returns c =
     let f = raws c in
     (sym f.size, omega (arith, f.most))
 
-add_start : tie.Need-overflow-add-start
+add_start : tie.Need-overflow_add-start
 add_start c = let f = deltas c in omega (arith, f.most, f.small)
 
-div-start : tie.Need-nonzero-div-start
+div-start : tie.Need-nonzero_div-start
 div-start c = let f = deltas c in omega (arith, f.pos)
 
-mul-start : tie.Need-overflow-mul-start
+mul-start : tie.Need-overflow_mul-start
 unfolding groups
 mul-start c = let f = deltas c in omega (arith, f.at_most, f.most, f.small)
 
-add-start-2 : tie.Need-overflow-add-start-2
+add-start-2 : tie.Need-overflow_add-start-2
 unfolding groups
 add-start-2 c = let f = deltas c in omega (arith, f.at_most, f.most, f.small)
 
-deltas-len-requires : tie.Need-deltas-len-requires
+deltas-len-requires : tie.Need-deltas_len-requires
 deltas-len-requires c κs = let f = deltas c in (f.most, (f.pos, f.up))
 
-add-result-2 : tie.Need-overflow-add-result-2
+add-result-2 : tie.Need-overflow_add-result-2
 unfolding groups
-add-result-2 c = let f = deltas c.before in omega (arith, f.at_most, f.most, f.small, c.deltas-len.ensures.1)
+add-result-2 c = let f = deltas c.before in omega (arith, f.at_most, f.most, f.small, c.deltas_len.ensures.1)
 
-returns-2 : tie.Need-returns-2
+returns-2 : tie.Need-returns
 unfolding groups
 returns-2 c =
     let f = deltas c.before in
-    (omega (arith, f.size, c.deltas-len.ensures.0), omega (arith, f.at_most, f.most, f.small, c.deltas-len.ensures.1))
+    (omega (arith, f.size, c.deltas_len.ensures.0), omega (arith, f.at_most, f.most, f.small, c.deltas_len.ensures.1))
 
 pub encoded_len_spec : {M : Type 1} → statement M
 encoded_len_spec =

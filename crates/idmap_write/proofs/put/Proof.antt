@@ -8,62 +8,62 @@ use borrow.Author.Rules.{rules}
 use Rattle.idmap_write.proofs.put.Statement.{statement}
 use Rattle.idmap_write.proofs.put.Tie as tie
 
-raws : (c : tie.Then1) → Raw c.before.before.before.args.ids.now
-    c.before.before.before.args.encoding c.before.before.before.args.interval
-raws c = raw_facts _ _ _ c.before.before.before.requires.0 c.if1.true
+raws : (c : tie.Then-encoding-eq0) → Raw c.args.ids.now
+    c.args.encoding c.args.interval
+raws c = raw_facts _ _ _ c.requires.0 c.if-encoding-eq0.true
 
-deltas : (c : tie.After-interval-of) → Delta c.before.before.before.before.args.ids.now
-    c.before.before.before.before.args.encoding c.before.before.before.before.args.interval
-    c.interval-of.result
-deltas c = delta_facts _ _ _ _ c.before.before.before.before.requires.0 c.before.if1.false c.interval-of.ensures
+deltas : (c : tie.After-interval_of-r) → Delta c.args.ids.now
+    c.args.encoding c.args.interval
+    c.interval_of-r.result
+deltas c = delta_facts _ _ _ _ c.requires.0 c.if-encoding-eq0.false c.interval_of-r.ensures
 
-put-head-requires : tie.Need-put-head-requires
-put-head-requires c κs = let f = raws c.before in omega (arith, f.size, c.before.before.before.before.requires.1)
+put-head-requires : tie.Need-put_head-requires
+put-head-requires c κs = let f = raws c.before in omega (arith, f.size, c.requires.1)
 
-put-raw-requires : tie.Need-put-raw-requires
+put-raw-requires : tie.Need-put_raw-requires
 put-raw-requires c κs =
-    let ph = c.before.before.before in
-    let f = raws ph.before.before in omega (arith, f.size, ph.before.before.before.before.before.requires.1, ph.put-head.auto.0)
+    let ph = c in
+    let f = raws ph.before in omega (arith, f.size, ph.requires.1, ph.put_head.auto.buf)
 
-returns : tie.Need-returns
+returns : tie.Need-returns-then-encoding-eq0
 returns c =
-    let ph = c.before.before.before.before.before.before in
-    let f = raws ph.before.before in
+    let ph = c in
+    let f = raws ph.before in
     rw f.bytes (whole_laid _ _ _ _ _ (length_head 0 0 _)
-    (omega (arith, f.size, ph.before.before.before.before.before.requires.1)) ph.put-head.ensures
-    c.before.before.put-raw.ensures)
+    (omega (arith, f.size, ph.requires.1)) ph.put_head.ensures
+    c.put_raw.ensures)
 
-add_start : tie.Need-overflow-add-start
+add_start : tie.Need-overflow_add-start
 add_start c = let f = deltas c in omega (arith, f.most, f.small)
 
-div-start : tie.Need-nonzero-div-start
+div-start : tie.Need-nonzero_div-start
 div-start c = let f = deltas c in omega (arith, f.pos)
 
-mul-start : tie.Need-overflow-mul-start
+mul-start : tie.Need-overflow_mul-start
 unfolding groups
 mul-start c = let f = deltas c in omega (arith, f.at_most, f.most, f.small)
 
-add-start-2 : tie.Need-overflow-add-start-2
+add-start-2 : tie.Need-overflow_add-start-2
 unfolding groups
 add-start-2 c = let f = deltas c in omega (arith, f.at_most, f.most, f.small)
 
-put-head-requires-2 : tie.Need-put-head-requires-2
-put-head-requires-2 c κs = let f = deltas c.before in omega (arith, f.size, c.before.before.before.before.before.requires.1)
+put-head-requires-2 : tie.Need-put_head-requires-2
+put-head-requires-2 c κs = let f = deltas c.before in omega (arith, f.size, c.requires.1)
 
-put-deltas-requires : tie.Need-put-deltas-requires
+put-deltas-requires : tie.Need-put_deltas-requires
 unfolding groups
 put-deltas-requires c κs =
-    let ph2 = c.before.before.before in
-    let f = deltas ph2.before.before in
-    ((f.pos, f.up), (f.begins, omega (arith, f.size, ph2.before.before.before.before.before.before.requires.1, ph2.put-head2.auto.0)))
+    let ph2 = c in
+    let f = deltas ph2.before in
+    ((f.pos, f.up), (f.begins, omega (arith, f.size, ph2.requires.1, ph2.put_head-2.auto.buf)))
 
-returns-2 : tie.Need-returns-2
+returns-2 : tie.Need-returns
 returns-2 c =
-    let ph2 = c.before.before.before.before.before.before in
-    let f = deltas ph2.before.before in
+    let ph2 = c in
+    let f = deltas ph2.before in
     rw f.bytes (whole_laid _ _ _ _ _ (length_head 1 _ _)
-    (omega (arith, f.size, ph2.before.before.before.before.before.before.requires.1)) ph2.put-head2.ensures
-    c.before.before.put-deltas.ensures)
+    (omega (arith, f.size, ph2.requires.1)) ph2.put_head-2.ensures
+    c.put_deltas.ensures)
 
 pub put_spec : {M : Type 1} → statement M
 put_spec =

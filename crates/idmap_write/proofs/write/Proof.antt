@@ -7,25 +7,25 @@ use borrow.Author.Rules.{rules}
 use Rattle.idmap_write.proofs.write.Statement.{statement}
 use Rattle.idmap_write.proofs.write.Tie as tie
 
-returns : tie.Need-returns
-returns c = write_bad _ _ _ _ (sym c.before.refusal.ensures) (omega arith)
+returns : tie.Need-returns-then-bad-ne0
+returns c = write_bad _ _ _ _ (sym c.refusal-bad.ensures) (omega arith)
 
-encoded-len-requires : tie.Need-encoded-len-requires
-encoded-len-requires c κs = sym c.before.refusal.ensures ∙ c.if1.false
+encoded-len-requires : tie.Need-encoded_len-n-requires
+encoded-len-requires c κs = sym c.refusal-bad.ensures ∙ c.if-bad-ne0.false
 
-returns-2 : tie.Need-returns-2
-returns-2 c = write_short _ _ _ (sym c.before.before.before.refusal.ensures ∙ c.before.before.if1.false) (omega arith)
+returns-2 : tie.Need-returns-then-buf-n
+returns-2 c = write_short _ _ _ (sym c.refusal-bad.ensures ∙ c.if-bad-ne0.false) (omega arith)
 
 put-requires : tie.Need-put-requires
 put-requires c κs =
-    let e1 = c.before.before.before in
-    (sym e1.before.refusal.ensures ∙ e1.if1.false, omega arith)
+    let e1 = c in
+    (sym e1.refusal-bad.ensures ∙ e1.if-bad-ne0.false, omega arith)
 
-returns-3 : tie.Need-returns-3
+returns-3 : tie.Need-returns
 returns-3 c =
-    let el = c.before.before.before.before.before in
-    write_done _ _ _ _ _ (sym el.before.before.refusal.ensures ∙ el.before.if1.false) (omega arith)
-    el.encoded-len.ensures.0 c.before.before.put.ensures
+    let el = c in
+    write_done _ _ _ _ _ (sym el.refusal-bad.ensures ∙ el.if-bad-ne0.false) (omega arith)
+    el.encoded_len-n.ensures.0 c.put.ensures
 
 pub write_spec : {M : Type 1} → statement M
 write_spec =

@@ -7,17 +7,17 @@ use Rattle.idmap.specs.Encode.{delta_of}
 use Rattle.idmap_write.proofs.encode.delta.Statement.{statement}
 use Rattle.idmap_write.proofs.encode.delta.Tie as tie
 
-returns : tie.Need-returns
+returns : tie.Need-returns-then-left-eq0
 unfolding delta_of
-returns c = rw c.if1.true
+returns c = rw c.if-left-eq0.true
 
-sub-result : tie.Need-overflow-sub-result
-sub-result c = c.before.requires c.if1.false
+sub-result : tie.Need-overflow_sub-result
+sub-result c = c.requires c.if-left-eq0.false
 
-returns-2 : tie.Need-returns-2
+returns-2 : tie.Need-returns
 unfolding delta_of
 returns-2 c =
-    let e : c.before.args.left ≡ suc (c.before.args.left - 1) = omega arith in
+    let e : c.args.left ≡ suc (c.args.left - 1) = omega arith in
     rw e
 
 pub delta_spec : {M : Type 1} → statement M

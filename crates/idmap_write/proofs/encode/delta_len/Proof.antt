@@ -6,19 +6,19 @@ use borrow.Author.Rules.{rules}
 use Rattle.idmap_write.proofs.encode.delta_len.Statement.{statement}
 use Rattle.idmap_write.proofs.encode.delta_len.Tie as tie
 
-returns : tie.Need-returns
-returns c = begins_len _ _ _ _ c.before.if1.true c.encoded-len.ensures
+returns : tie.Need-returns-then-left-eq0
+returns c = begins_len _ _ _ _ c.if-left-eq0.true c.encoded_len.ensures
 
-sub-d : tie.Need-overflow-sub-d
-sub-d c = c.before.requires c.if1.false
+sub-d : tie.Need-overflow_sub-d
+sub-d c = c.requires c.if-left-eq0.false
 
-returns-2 : tie.Need-returns-2
-returns-2 c = differs_len _ _ _ _ (omega arith) c.encoded-len2.ensures
+returns-2 : tie.Need-returns-then-d-ge16384
+returns-2 c = differs_len _ _ _ _ (omega arith) c.encoded_len-then-d-ge16384.ensures
 
-returns-3 : tie.Need-returns-3
+returns-3 : tie.Need-returns-then-d-lt128
 returns-3 c = differs_len _ _ _ _ (omega arith) (one_byte _ (omega arith))
 
-returns-4 : tie.Need-returns-4
+returns-4 : tie.Need-returns-else-d-lt128
 returns-4 c = differs_len _ _ _ _ (omega arith) (two_bytes _ (omega arith) (omega arith))
 
 pub delta_len_spec : {M : Type 1} → statement M

@@ -13,21 +13,21 @@ put-requires c κs = simp length-set (omega arith)
 
 put-requires-2 : tie.Need-put-requires-2
 put-requires-2 c κs =
-    let p = c.before.before.before in
-    let s = p.before.before.before in
-    omega (arith, p.put.auto.0, length-set s.args.buf.now 0 s.args.encoding)
+    let p = c in
+    let s = p in
+    omega (arith, p.put.auto.s, length-set s.args.buf.now 0 s.args.encoding)
 
-same_length : tie.Need-same-length
+same_length : tie.Need-shape_of-buf
 same_length c =
-    let p = c.before.before.before.before.before.before in
-    let s = p.before.before.before in
-    c.before.before.put2.auto.0 ∙ p.put.auto.0 ∙ length-set s.args.buf.now 0 s.args.encoding
+    let p = c in
+    let s = p in
+    c.put-2.auto.s ∙ p.put.auto.s ∙ length-set s.args.buf.now 0 s.args.encoding
 
 returns : tie.Need-returns
 returns c =
-    let p = c.before.before.before.before.before.before in
-    let s = p.before.before.before in
-    head_laid s.args.buf.now _ _ _ _ _ s.requires p.put.ensures c.before.before.put2.ensures
+    let p = c in
+    let s = p in
+    head_laid s.args.buf.now _ _ _ _ _ s.requires p.put.ensures c.put-2.ensures
 
 pub put_head_spec : {M : Type 1} → statement M
 put_head_spec = tie.close (tie.spec (search rules) put-requires put-requires-2 same_length returns)

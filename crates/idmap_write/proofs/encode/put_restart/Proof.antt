@@ -14,25 +14,25 @@ use Rattle.idmap_write.proofs.encode.put_restart.Tie as tie
 put-requires : tie.Need-put-requires
 unfolding restart_of
 put-requires c κs =
-    let s = c.before.before.before in
-    omega (arith, rw (c.before.if1.true, length_le_bytes 4 s.args.at) at s.requires)
+    let s = c in
+    omega (arith, rw (c.if-left-eq0.true, length_le_bytes 4 s.args.at) at s.requires)
 
-add-result : tie.Need-overflow-add-result
+add-result : tie.Need-overflow_add-result
 unfolding restart_of
 add-result c =
-    let t1 = c.before.before.before.before in
-    omega (arith, rw (t1.if1.true, length_le_bytes 4 t1.before.before.args.at) at t1.before.before.requires)
+    let t1 = c in
+    omega (arith, rw (t1.if-left-eq0.true, length_le_bytes 4 t1.args.at) at t1.requires)
 
-returns : tie.Need-returns
+returns : tie.Need-returns-then-left-eq0
 unfolding restart_of
 returns c =
-    let t1 = c.before.before.before.before in
-    rw t1.if1.true (rw (length_le_bytes 4 t1.before.before.args.at) refl, c.before.before.put.ensures)
+    let t1 = c in
+    rw t1.if-left-eq0.true (rw (length_le_bytes 4 t1.args.at) refl, c.put.ensures)
 
-returns-2 : tie.Need-returns-2
+returns-2 : tie.Need-returns
 unfolding restart_of
 returns-2 c =
-    let s = c.before.before in
+    let s = c in
     let e : s.args.left ≡ suc (s.args.left - 1) = omega arith in
     rw e (sym (add-zero s.args.place), sym (over_none s.args.buf.now s.args.place))
 

@@ -8,22 +8,22 @@ use borrow.Author.Rules.{rules}
 use Rattle.idmap_write.proofs.refusal.refusal.Statement.{statement}
 use Rattle.idmap_write.proofs.refusal.refusal.Tie as tie
 
-returns : tie.Need-returns
+returns : tie.Need-returns-then-ids-lt1
 returns c = bad_none _ _ _ (omega arith)
 
-returns-2 : tie.Need-returns-2
+returns-2 : tie.Need-returns-then-ids-gt-MAX_VECTORS
 returns-2 c = bad_many _ _ _ (omega arith)
 
-returns-3 : tie.Need-returns-3
-returns-3 c = bad_interval _ _ _ (omega arith) (omega arith) (sym c.before.interval-held.ensures ∙ not-true _ c.if3.true)
+returns-3 : tie.Need-returns-then-not-interval_held
+returns-3 c = bad_interval _ _ _ (omega arith) (omega arith) (sym c.interval_held.ensures ∙ c.if-not-interval_held.true)
 
-returns-4 : tie.Need-returns-4
-returns-4 c = bad_not _ _ _ (omega arith) (omega arith) (sym c.before.before.before.interval-held.ensures
-    ∙ not-false _ c.before.before.if3.false) (sym c.before.rising.ensures ∙ c.if4.true)
+returns-4 : tie.Need-returns-then-rising
+returns-4 c = bad_not _ _ _ (omega arith) (omega arith) (sym c.interval_held.ensures
+    ∙ c.if-not-interval_held.false) (sym c.rising.ensures ∙ c.if-rising.true)
 
-returns-5 : tie.Need-returns-5
-returns-5 c = bad_ids _ _ _ (omega arith) (omega arith) (sym c.before.before.before.interval-held.ensures
-    ∙ not-false _ c.before.before.if3.false) (sym c.before.rising.ensures ∙ c.if4.false)
+returns-5 : tie.Need-returns
+returns-5 c = bad_ids _ _ _ (omega arith) (omega arith) (sym c.interval_held.ensures
+    ∙ c.if-not-interval_held.false) (sym c.rising.ensures ∙ c.if-rising.false)
 
 pub refusal_spec : {M : Type 1} → statement M
 refusal_spec =

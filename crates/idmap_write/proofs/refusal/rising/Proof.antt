@@ -10,26 +10,26 @@ use borrow.Author.Rules.{rules}
 use Rattle.idmap_write.proofs.refusal.rising.Statement.{statement}
 use Rattle.idmap_write.proofs.refusal.rising.Tie as tie
 
-abbrev invariant-loop : tie.invariant-loop
-invariant-loop ids i₀ prev₀ i prev = RiseAt ids i prev
+abbrev invariant-loop-i : tie.invariant-loop-i
+invariant-loop-i ids i₀ prev₀ i prev = RiseAt ids i prev
 
-abbrev decreases-loop : tie.decreases-loop
-decreases-loop ids i₀ prev₀ i prev = length ids - i
+abbrev decreases-loop-i : tie.decreases-loop-i
+decreases-loop-i ids i₀ prev₀ i prev = length ids - i
 
-returns : tie.Need-returns invariant-loop decreases-loop
-returns c = rise_stop _ _ _ c.before.before.before.before.loop.invariant (omega arith)
-    (sym c.before.follows.ensures ∙ not-true _ c.if1.true)
+returns : tie.Need-returns-then-not-follows invariant-loop-i decreases-loop-i
+returns c = rise_stop _ _ _ c.loop-i.invariant (omega arith)
+    (sym c.follows.ensures ∙ c.if-not-follows.true)
 
-loop-again : tie.Need-loop-preserved invariant-loop decreases-loop
-loop-again c = rise_next _ _ _ c.before.before.before.before.loop.invariant (omega arith)
-    (sym c.before.follows.ensures ∙ not-false _ c.if1.false)
+loop-again : tie.Need-loop-i-preserved invariant-loop-i decreases-loop-i
+loop-again c = rise_next _ _ _ c.loop-i.invariant (omega arith)
+    (sym c.follows.ensures ∙ c.if-not-follows.false)
 
-returns-2 : tie.Need-returns-2 invariant-loop decreases-loop
-returns-2 c = rise_last _ _ _ c.before.loop.invariant (omega arith)
+returns-2 : tie.Need-returns invariant-loop-i decreases-loop-i
+returns-2 c = rise_last _ _ _ c.loop-i.invariant (omega arith)
 
 pub rising_spec : {M : Type 1} → statement M
 rising_spec =
     tie.close
     (tie.spec
-    invariant-loop decreases-loop (λ c. rise_first _) (search rules) (search rules) (search rules) returns (search rules)
+    invariant-loop-i decreases-loop-i (λ c. rise_first _) (search rules) (search rules) (search rules) returns (search rules)
     (search rules) loop-again returns-2)
