@@ -51,5 +51,4 @@ pub encoded_len_spec : {M : Type 1} → statement M
 encoded_len_spec =
     tie.close
     (tie.spec
-    (search rules) (search rules) returns (search rules) (λ c. omega (arith, (deltas c).pos)) add_start div-start
-    mul-start add-start-2 deltas-len-requires add-result-2 returns-2)
+    (search rules) (search rules) returns (search rules) (λ c. omega (arith, (deltas c).pos)) add_start div-start mul-start add-start-2 deltas-len-requires add-result-2 returns-2)

@@ -23,12 +23,12 @@ put-head-requires c κs = let f = raws c.before in omega (arith, f.size, c.requi
 put-raw-requires : tie.Need-put_raw-requires
 put-raw-requires c κs =
     let ph = c in
-    let f = raws ph.before in omega (arith, f.size, ph.requires.1, ph.put_head.auto.buf)
+    let f = raws c.before.before.before.before.before in omega (arith, f.size, ph.requires.1, ph.put_head.auto.buf)
 
 returns : tie.Need-returns-then-encoding-eq0
 returns c =
     let ph = c in
-    let f = raws ph.before in
+    let f = raws c.before.before.before.before.before.before.before.before in
     rw f.bytes (whole_laid _ _ _ _ _ (length_head 0 0 _)
     (omega (arith, f.size, ph.requires.1)) ph.put_head.ensures
     c.put_raw.ensures)
@@ -54,13 +54,13 @@ put-deltas-requires : tie.Need-put_deltas-requires
 unfolding groups
 put-deltas-requires c κs =
     let ph2 = c in
-    let f = deltas ph2.before in
+    let f = deltas c.before.before.before.before.before in
     ((f.pos, f.up), (f.begins, omega (arith, f.size, ph2.requires.1, ph2.put_head-2.auto.buf)))
 
 returns-2 : tie.Need-returns
 returns-2 c =
     let ph2 = c in
-    let f = deltas ph2.before in
+    let f = deltas c.before.before.before.before.before.before.before.before in
     rw f.bytes (whole_laid _ _ _ _ _ (length_head 1 _ _)
     (omega (arith, f.size, ph2.requires.1)) ph2.put_head-2.ensures
     c.put_deltas.ensures)
@@ -69,5 +69,4 @@ pub put_spec : {M : Type 1} → statement M
 put_spec =
     tie.close
     (tie.spec
-    put-head-requires put-raw-requires (search rules) returns (search rules) (λ c. omega (arith, (deltas c).pos))
-    add_start div-start mul-start add-start-2 put-head-requires-2 put-deltas-requires (search rules) returns-2)
+    put-head-requires put-raw-requires (search rules) returns (search rules) (λ c. omega (arith, (deltas c).pos)) add_start div-start mul-start add-start-2 put-head-requires-2 put-deltas-requires (search rules) returns-2)

@@ -29,7 +29,7 @@ add_total c =
 loop-again : tie.Need-loop-i-preserved invariant-loop-i decreases-loop-i
 loop-again c =
     let d = c in
-    rw c.left_After.ensures
+    rw c.left_after-left.ensures
     (len_next _ _ _ _ _ _ _ d.loop-i.invariant (omega arith) d.delta_len-total.ensures.0
     d.delta_len-total.ensures.1)
 

@@ -55,7 +55,7 @@ loop-again c =
     let l = pr in
     let s = l in
     let d = pr.delta-d.ensures in
-    rw la.left_After.ensures
+    rw la.left_after-left.ensures
     (put_next _ _ _ _ _ _ _ _ _ _ l.loop-i.invariant (omega arith) s.requires.1.0 s.requires.1.1 _ _ _ _
     pr.put_restart-place.ensures.1 pr.put_restart-place.ensures.0
     (rw d at p.put-pos.ensures.1) (rw d at p.put-pos.ensures.0) (p.put-pos.auto.out ∙ pr.put_restart-place.auto.buf))
