@@ -28,14 +28,14 @@ use Rattle.appending.specs.Opens.{kept, new_manifest, file_with, cut_file, links
 -- ---- the start lies in the file
 
 module _ (f : List ℕ) where
-  pub kept_is : last.keptOf reader confirmed start f ≡ take (start_of (opened f)) f
-  unfolding last.keptOf opened
+  pub kept_is : last.kept_of reader confirmed start f ≡ take (start_of (opened f)) f
+  unfolding last.kept_of opened
   kept_is = ap (λ (n : ℕ). take n f) (kept f).sizes_is
 
   pub start_inside : start_of (opened f) ≤ length f
   unfolding opened
   start_inside =
-      let n : length (take (start_of (opened f)) f) ≡ start_of (opened f) = sym (ap length kept_is) ∙ last.kept-length reader confirmed start segment_format f ∙ (kept f).sizes_is in
+      let n : length (take (start_of (opened f)) f) ≡ start_of (opened f) = sym (ap length kept_is) ∙ last.kept_length reader confirmed start segment_format f ∙ (kept f).sizes_is in
       omega (arith, length-take (start_of (opened f)) f)
 
 -- ---- opening after it
@@ -51,7 +51,7 @@ module _ (f : List ℕ) (room n : ℕ) (batch ids : List ℕ) (ts : ℕ) (h : ts
   unfolding opened file_with new_links
   open_with =
       ap (λ (x : List ℕ). open_of reader confirmed start (x ++ new_bytes o bs ids ts)) (sym (kept_is f))
-      ∙ last.open-append reader confirmed start segment_format f (new_bytes o bs ids ts) (body_links (start_of o) (next_id o) ts bs) (new_manifest o bs ids ts)
+      ∙ last.open_append reader confirmed start segment_format f (new_bytes o bs ids ts) (body_links (start_of o) (next_id o) ts bs) (new_manifest o bs ids ts)
       (new_exact o (kept f) bs ids ts h (bodies_held batch y.batch_is_held) y.id_fits y.end_limit)
       (new_confirmed o (kept f) bs ids ts y.count_fits y.retire_is_held)
 

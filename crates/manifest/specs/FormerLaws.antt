@@ -39,7 +39,7 @@ stays_confirmed f before rest manifest e h =
       found = b.found;
       opens = ap (last_confirmed confirmed) now ∙ b.is;
       between = b.between;
-      not_before = b.up-to;
+      not_before = b.up_to_is;
     }
 
 -- the manifest that opening found then

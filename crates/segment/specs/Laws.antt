@@ -112,7 +112,7 @@ unfolding size_at size sound link_front
 lies st s l e =
     let p = framed_is 64 size_at read size after (lit< tt) at_least size_is e in
     let g : length_in (take 64 s) ≡ length_in s = number_front 8 0x10 s (omega arith) in
-    let z : size l ≡ 64 + round64 (length_in s) = p.size-at ∙ ap (λ (n : ℕ). 64 + round64 n) g in
+    let z : size l ≡ 64 + round64 (length_in s) = p.size_at_is ∙ ap (λ (n : ℕ). 64 + round64 n) g in
     let f : size l ≤ length s = p.fits in
     let r : length_in s ≤ round64 (length_in s) = round64_ge (length_in s) in
     let is : l ≡ link_front st.at s = sym (read_is st (take (size l) s) l p.reads) ∙ link_in_front st.at s (size l) (omega arith) in

@@ -48,7 +48,7 @@ pub kept_opens : (f : List ℕ) → opened (take (start_of (opened f)) f) ≡ op
 unfolding opened open_of
 kept_opens f =
     ap (λ (x : List ℕ). open_of reader confirmed start x) (sym (kept_is f))
-    ∙ ap (last_confirmed confirmed) (C.walk-all reader segment_format (last.kept-exact reader confirmed start segment_format f))
+    ∙ ap (last_confirmed confirmed) (C.walk_all reader segment_format (last.kept_exact reader confirmed start segment_format f))
     ∙ last_up_to confirmed (walk reader start f)
 
 -- ---- the bytes up to the new manifest
@@ -59,7 +59,7 @@ module _ (g offsets : List ℕ) (begin kept-count : ℕ) (first : Bool) (last-id
   o = opened g
 
   -- what is kept is all of g
-  all-kept : last.keptOf reader confirmed start g ≡ g
+  all-kept : last.kept_of reader confirmed start g ≡ g
   all-kept = kept_is g ∙ take_all (start_of o) g (omega (arith, y.whole, y.start_is))
 
   abbrev front : List ℕ
@@ -69,7 +69,7 @@ module _ (g offsets : List ℕ) (begin kept-count : ℕ) (first : Bool) (last-id
   unfolding new_links opened
   chain-front =
       ap (λ (x : List ℕ). walk reader start (x ++ body_bytes (next_id o) ts bs)) (sym all-kept)
-      ∙ last.walk-append reader confirmed start segment_format g (body_bytes (next_id o) ts bs) (body_links (start_of o) (next_id o) ts bs)
+      ∙ last.walk_append reader confirmed start segment_format g (body_bytes (next_id o) ts bs) (body_links (start_of o) (next_id o) ts bs)
       (rw (kept g).state (bodies_exact ts ts-fits (start_of o) (next_id o) bs t ids-fit (rw y.start_is (omega arith))))
 
   pub front_lying : All (Lying front) (new_links o bs ts)

@@ -10,4 +10,5 @@ unfolding flags_held
 returns c = refl
 
 pub flags_held_spec : {M : Type 1} → statement M
-flags_held_spec = tie.close (tie.spec returns)
+flags_held_spec = tie.close (tie.spec
+    returns)

@@ -9,4 +9,5 @@ returns : tie.Need-returns
 returns c = hash_laid _ _ c.put.ensures
 
 pub hash_by_spec : {M : Type 1} → statement M
-hash_by_spec = tie.close (tie.spec (search rules) (search rules) returns)
+hash_by_spec = tie.close (tie.spec
+    (search rules) (search rules) returns)

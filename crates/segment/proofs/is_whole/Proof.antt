@@ -19,5 +19,4 @@ pub is_whole_spec : {M : Type 1} → statement M
 is_whole_spec =
     tie.close
     (tie.spec
-    (search rules) (search rules) (search rules) (search rules) (search rules) (search rules) is-whole-by-requires
-    returns)
+    (search rules) (search rules) (search rules) (search rules) (search rules) (search rules) is-whole-by-requires returns)

@@ -15,5 +15,4 @@ pub is_whole_by_spec : {M : Type 1} → statement M
 is_whole_by_spec =
     tie.close
     (tie.spec
-    (search rules) (search rules) (search rules) (search rules) (search rules) (search rules) (search rules)
-    (search rules) returns)
+    (search rules) (search rules) (search rules) (search rules) (search rules) (search rules) (search rules) (search rules) returns)

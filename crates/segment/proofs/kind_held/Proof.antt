@@ -9,4 +9,5 @@ returns : tie.Need-returns
 returns c = kind_byte c.args.kind (omega arith)
 
 pub kind_held_spec : {M : Type 1} → statement M
-kind_held_spec = tie.close (tie.spec returns)
+kind_held_spec = tie.close (tie.spec
+    returns)

@@ -12,4 +12,5 @@ returns-2 : tie.Need-returns
 returns-2 c = reserved_high _ (omega arith)
 
 pub kind_reserved_spec : {M : Type 1} → statement M
-kind_reserved_spec = tie.close (tie.spec returns returns-2)
+kind_reserved_spec = tie.close (tie.spec
+    returns returns-2)

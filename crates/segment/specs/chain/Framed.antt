@@ -72,7 +72,7 @@ module _ {S L : Type 0} (head : ℕ) (size_at : List ℕ → ℕ) (read : S → 
     framed_format =
         record {
           empty = none-at-end;
-          size-pos = λ {st} {s} {l} e. let p : Framed st s l = framed_is e in rw p.size_at_is (lt_of_lt_of_le head-pos (head-le (take head s)));
+          size_pos = λ {st} {s} {l} e. let p : Framed st s l = framed_is e in rw p.size_at_is (lt_of_lt_of_le head-pos (head-le (take head s)));
           size_fits = λ e. (framed_is e).fits;
           local = λ {st} {s} {l} e r.
               let n : length (take (size l) s) ≡ size l = length-take-le (size l) s (framed_is e).fits in

@@ -113,16 +113,16 @@ module _ {S L : Type 0} (R : Reader S L) (confirmed : List L → L → Bool) (st
     unfolding open_of kept_of
     kept_exact f =
         let p = up_to_prefix confirmed (walk R st f) in
-        C.exact-take R F st (up_to confirmed (open_of R confirmed st f)) p.0 f p.1
+        C.exact_take R F st (up_to confirmed (open_of R confirmed st f)) p.0 f p.1
 
     pub kept_length : (f : List ℕ) → length (kept_of f) ≡ C.sizes R (up_to confirmed (open_of R confirmed st f))
-    kept_length f = C.exact-length R F (kept_exact f)
+    kept_length f = C.exact_length R F (kept_exact f)
 
     -- the bytes up to the last confirmed link's end, with new links behind them
     pub walk_append : (f new : List ℕ) (ms : List L) → C.Exact R (C.afters R st (up_to confirmed (open_of R confirmed st f))) ms new
         → walk R st (kept_of f ++ new) ≡ up_to confirmed (open_of R confirmed st f) ++ ms
     walk_append f new ms x =
-        C.walk-exact R F new (kept_exact f) ∙ ap (λ (r : List L). up_to confirmed (open_of R confirmed st f) ++ r) (C.walk-all R F x)
+        C.walk_exact R F new (kept_exact f) ∙ ap (λ (r : List L). up_to confirmed (open_of R confirmed st f) ++ r) (C.walk_all R F x)
 
     -- new bytes that are links, the last of which is confirmed: that one is found
     pub open_append : (f new : List ℕ) (ls : List L) (m : L)
@@ -142,7 +142,7 @@ module _ {S L : Type 0} (R : Reader S L) (confirmed : List L → L → Bool) (st
     unfolding open_of
     open_cut f new ls m x t k h =
         let o = up_to confirmed (open_of R confirmed st f) in
-        ap (last_confirmed confirmed) (C.walk-exact R F (take k new) (kept_exact f))
+        ap (last_confirmed confirmed) (C.walk_exact R F (take k new) (kept_exact f))
         ∙ last_never confirmed o (walk R (C.afters R st o) (take k new))
-        (C.walk-cut R F (λ l. (q : List L) → confirmed q l ≡ false) (C.afters R st o) ls m new x t k h)
+        (C.walk_cut R F (λ l. (q : List L) → confirmed q l ≡ false) (C.afters R st o) ls m new x t k h)
         ∙ last_up_to confirmed (walk R st f)

@@ -6,43 +6,43 @@ use borrow.Author.Rules.{rules}
 use Rattle.vec_read.proofs.read.Statement.{statement}
 use Rattle.vec_read.proofs.read.Tie as tie
 
-read-vector-requires : tie.Need-read-vector-requires
+read-vector-requires : tie.Need-read_vector-w-requires
 read-vector-requires c κs =
-    let f = c.before.before in
-    let w = f.before.before in
-    let s = w.before.before.before in
-    let k = found_at _ _ _ _ _ _ _ _ (sym w.walk.ensures ∙ f.found2.given.1) in
+    let f = c in
+    let w = f in
+    let s = w in
+    let k = found_at _ _ _ _ _ _ _ _ (sym w.walk-found.ensures ∙ f.in-At.is) in
     get_bounds s.args.payload.now s.args.id s.args.buf.now k.0 _ _ _ _ _ _ _ k.1
 
-returns : tie.Need-returns
+returns : tie.Need-returns-in-Refused
 returns c =
-    let b = found_bad _ _ _ (sym c.before.before.before.walk.ensures ∙ c.before.found.given.1) in
+    let b = found_bad _ _ _ (sym c.walk-found.ensures ∙ c.in-Refused.is) in
     get_bad _ _ _ _ b.0 b.1
 
-returns-2 : tie.Need-returns-2
+returns-2 : tie.Need-returns-in-Missing
 returns-2 c =
-    let k = found_none _ _ _ (sym c.before.before.walk.ensures ∙ c.enum_told.given.1) in
+    let k = found_none _ _ _ (sym c.walk-found.ensures ∙ c.in-Missing.is) in
     get_missing _ _ _ k.0 _ _ k.1
 
-returns-3 : tie.Need-returns-3
+returns-3 : tie.Need-returns-in-Refused-w
 returns-3 c =
-    let rv = c.before.before.before.before.before in
-    let f = rv.before.before.before in
-    let w = f.before.before in
-    let s = w.before.before.before in
-    let k = found_at _ _ _ _ _ _ _ _ (sym w.walk.ensures ∙ f.found2.given.1) in
+    let rv = c in
+    let f = rv in
+    let w = f in
+    let s = w in
+    let k = found_at _ _ _ _ _ _ _ _ (sym w.walk-found.ensures ∙ f.in-At.is) in
     get_short s.args.payload.now s.args.id _ k.0 _ _ _ _ _ _ _ k.1 _ _
-    (sym rv.read_vector.ensures.0 ∙ c.before.w.given.1) rv.read_vector.ensures.1
+    (sym rv.read_vector-w.ensures.0 ∙ c.in-Refused-w.is) rv.read_vector-w.ensures.1
 
-returns-4 : tie.Need-returns-4
+returns-4 : tie.Need-returns-in-Length
 returns-4 c =
-    let rv = c.before.before.before.before.before in
-    let f = rv.before.before.before in
-    let w = f.before.before in
-    let s = w.before.before.before in
-    let k = found_at _ _ _ _ _ _ _ _ (sym w.walk.ensures ∙ f.found2.given.1) in
+    let rv = c in
+    let f = rv in
+    let w = f in
+    let s = w in
+    let k = found_at _ _ _ _ _ _ _ _ (sym w.walk-found.ensures ∙ f.in-At.is) in
     get_read s.args.payload.now s.args.id _ k.0 _ _ _ _ _ _ _ k.1 _ _
-    (sym rv.read_vector.ensures.0 ∙ c.before.w2.given.1) rv.read_vector.ensures.1
+    (sym rv.read_vector-w.ensures.0 ∙ c.in-Length.is) rv.read_vector-w.ensures.1
 
 pub read_spec : {M : Type 1} → statement M
 read_spec =

@@ -28,7 +28,7 @@ returns-3 c = head_fails _ _ 2 (sym c.kind_held.ensures ∙ c.if-not-kind_held.t
 
 returns-4 : tie.Need-returns-then-not-flags_held
 returns-4 c = head_fails _ _ 3 (ap flags_held (sym c.u16_at.ensures)
-    ∙ sym c.flags_are_held.ensures ∙ c.if-not-flags_held.true)
+    ∙ sym c.flags_held.ensures ∙ c.if-not-flags_held.true)
 
 returns-5 : tie.Need-returns-then-h-ne0
 returns-5 c = head_fails _ _ 4 (ne_eqb _ 0 c.if-h-ne0.true)
@@ -53,7 +53,7 @@ returns-8 c =
     (sym e1.same.ensures ∙ e1.if-not-same.false)
     e2.if-h-ne1.false
     (sym e3.kind_held.ensures ∙ e3.if-not-kind_held.false)
-    (ap flags_held (sym fh.u16_at.ensures) ∙ sym fh.flags_are_held.ensures ∙ e5.if-not-flags_held.false)
+    (ap flags_held (sym fh.u16_at.ensures) ∙ sym fh.flags_held.ensures ∙ e5.if-not-flags_held.false)
     e5.if-h-ne0.false
     (sym e6.is_zero.ensures ∙ e6.if-not-is_zero.false)
     (sym e7.is_zero-2.ensures ∙ e7.if-not-is_zero-2.false)
@@ -65,7 +65,4 @@ pub header_sound_spec : {M : Type 1} → statement M
 header_sound_spec =
     tie.close
     (tie.spec
-    slice-aggregate-same (search rules) (search rules) returns (search rules) returns-2 (search rules)
-    (search rules) returns-3 (search rules) (search rules) returns-4 (search rules) returns-5 (search rules)
-    (search rules) (search rules) (search rules) returns-6 (search rules) (search rules) (search rules)
-    (search rules) returns-7 (search rules) (search rules) (search rules) returns-8)
+    slice-aggregate-same (search rules) returns (search rules) returns-2 (search rules) (search rules) returns-3 (search rules) (search rules) returns-4 (search rules) returns-5 (search rules) (search rules) (search rules) (search rules) returns-6 (search rules) (search rules) (search rules) (search rules) returns-7 (search rules) (search rules) (search rules) returns-8)

@@ -37,5 +37,4 @@ pub collect_spec : {M : Type 1} → statement M
 collect_spec =
     tie.close
     (tie.spec
-    invariant-loop-n decreases-loop-n loop-holds (search rules) (search rules) (search rules) returns (search rules)
-    (search rules) (search rules) (search rules) (search rules) loop-again (search rules) returns-2)
+    invariant-loop-n decreases-loop-n loop-holds (search rules) (search rules) (search rules) returns (search rules) (search rules) (search rules) (search rules) (search rules) loop-again (search rules) returns-2)

@@ -32,7 +32,7 @@ sub-is-zero c =
     let ru = c in
     let r = round64_ge ru.u64_at-declared.result in omega (arith, ru.round_up-padded.ensures)
 
-part-is-zero-start : tie.Need-slice-bounds-is-zero-start
+part-is-zero-start : tie.Need-slice_bounds-is_zero-start
 part-is-zero-start c =
     let ru = c in
     let r = round64_ge ru.u64_at-declared.result in omega (arith, ru.round_up-padded.ensures)
@@ -58,7 +58,4 @@ pub link_at_spec : {M : Type 1} → statement M
 link_at_spec =
     tie.close
     (tie.spec
-    returns (search rules) returns-2 (search rules) (search rules) (search rules) (search rules) (search rules)
-    returns-3 (search rules) returns-4 (search rules) returns-5 (search rules) (search rules) sub-is-zero
-    part-is-zero-start (search rules) (search rules) returns-6 (search rules) (search rules) (search rules)
-    returns-7)
+    returns (search rules) returns-2 (search rules) (search rules) (search rules) (search rules) (search rules) returns-3 (search rules) returns-4 (search rules) returns-5 (search rules) (search rules) sub-is-zero part-is-zero-start (search rules) (search rules) returns-6 (search rules) (search rules) (search rules) returns-7)

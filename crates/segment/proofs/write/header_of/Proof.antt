@@ -18,13 +18,11 @@ returns c =
     let p = p2 in
     let cy = p in
     let s = cy in
-    header_laid _ _ _ _ _ s.args.t6 _ _ _ _ _ _ (omega (arith, s)) cy.copy.ensures p.put.ensures
+    header_laid _ _ _ _ _ s.args.hash _ _ _ _ _ _ (omega (arith, s)) cy.copy.ensures p.put.ensures
     p2.put-2.ensures p3.put-3.ensures p4.put-4.ensures c.copy-2.ensures
 
 pub header_of_spec : {M : Type 1} → statement M
 header_of_spec =
     tie.close
     (tie.spec
-    (search rules) (search rules) (search rules) (search rules) (search rules) (λ c. search rules) put-requires
-    (search rules) (search rules) (search rules) (search rules) (search rules) (search rules) (search rules)
-    (search rules) (search rules) (search rules) (search rules) returns)
+    (search rules) (search rules) (search rules) (search rules) (search rules) put-requires (search rules) (search rules) (search rules) (search rules) (search rules) (search rules) (search rules) (search rules) (search rules) (search rules) (search rules) returns)

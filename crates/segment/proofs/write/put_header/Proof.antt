@@ -8,4 +8,5 @@ returns : tie.Need-returns
 returns c = rw c.header_of-h.ensures at c.copy.ensures
 
 pub put_header_spec : {M : Type 1} → statement M
-put_header_spec = tie.close (tie.spec (search rules) (search rules) (search rules) (search rules) returns)
+put_header_spec = tie.close (tie.spec
+    (search rules) (search rules) (search rules) (search rules) returns)

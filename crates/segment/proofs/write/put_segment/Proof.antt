@@ -20,7 +20,7 @@ sub-clear c =
     let ru = c in
     let r = round64_ge (length ru.args.payload.now) in omega (arith, ru.round_up.ensures)
 
-part-clear-start : tie.Need-slice-bounds-clear-start
+part-clear-start : tie.Need-slice_bounds-clear-start
 part-clear-start c =
     let ru = c in
     let r = round64_ge (length ru.args.payload.now) in omega (arith, ru.round_up.ensures)
@@ -41,5 +41,4 @@ pub put_segment_spec : {M : Type 1} → statement M
 put_segment_spec =
     tie.close
     (tie.spec
-    (search rules) (search rules) (search rules) (search rules) (search rules) (search rules) (search rules)
-    (search rules) copy-requires sub-clear part-clear-start (search rules) (search rules) (search rules) returns)
+    (search rules) (search rules) (search rules) (search rules) (search rules) (search rules) (search rules) (search rules) copy-requires sub-clear part-clear-start (search rules) (search rules) (search rules) returns)

@@ -8,20 +8,20 @@ use borrow.Author.Rules.{rules}
 use Rattle.vec_read.proofs.block.is_filled.Statement.{statement}
 use Rattle.vec_read.proofs.block.is_filled.Tie as tie
 
-returns : tie.Need-returns
+returns : tie.Need-returns-then-s-end
 returns c = filled_short _ _ (omega arith)
 
-sub-is-zero : tie.Need-overflow-sub-is-zero
-sub-is-zero c = omega (arith, round64_ge c.before.before.before.args.at)
+sub-is-zero : tie.Need-slice_bounds-is_zero-count
+sub-is-zero c = omega (arith, round64_ge c.args.at)
 
-part-is-zero-start : tie.Need-slice-bounds-is-zero-start
-part-is-zero-start c = omega (arith, round64_ge c.before.before.before.args.at)
+part-is-zero-start : tie.Need-slice_bounds-is_zero-start
+part-is-zero-start c = omega (arith, round64_ge c.args.at)
 
-returns-2 : tie.Need-returns-2
+returns-2 : tie.Need-returns
 returns-2 c =
-    let ru = c.before.before.before in
-    (rw ru.round_up.ensures at c.is_zero.ensures) ∙ filled_there ru.before.before.args.at
-    ru.before.before.args.s.now (omega arith)
+    let ru = c in
+    (rw ru.round_up-end.ensures at c.is_zero.ensures) ∙ filled_there ru.args.at
+    ru.args.s.now (omega arith)
 
 pub is_filled_spec : {M : Type 1} → statement M
 is_filled_spec =

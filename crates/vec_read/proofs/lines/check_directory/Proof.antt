@@ -9,36 +9,36 @@ use borrow.Author.Rules.{rules}
 use Rattle.vec_read.proofs.lines.check_directory.Statement.{statement}
 use Rattle.vec_read.proofs.lines.check_directory.Tie as tie
 
-returns : tie.Need-returns
+returns : tie.Need-returns-then-s-lt4
 returns c = directory_short _ (omega arith)
 
-returns-2 : tie.Need-returns-2
+returns-2 : tie.Need-returns-then-blocks-gt-MAX_BLOCKS
 unfolding block_count
-returns-2 c = directory_many _ (omega arith) _ c.before.u32-at.ensures (omega arith)
+returns-2 c = directory_many _ (omega arith) _ c.u32_at-blocks.ensures (omega arith)
 
-returns-3 : tie.Need-returns-3
+returns-3 : tie.Need-returns-then-s-end
 unfolding block_count
-returns-3 c = directory_cut _ (omega arith) _ c.before.before.u32-at.ensures (omega arith) (omega arith)
+returns-3 c = directory_cut _ (omega arith) _ c.u32_at-blocks.ensures (omega arith) (omega arith)
 
-returns-4 : tie.Need-returns-4
+returns-4 : tie.Need-returns-then-bad-ne0
 unfolding block_count
 returns-4 c =
-    let cl = c.before in
-    directory_lines _ (omega arith) _ cl.before.before.before.u32-at.ensures (omega arith) (omega arith) _ cl.check-lines.ensures c.if4.true
+    let cl = c in
+    directory_lines _ (omega arith) _ cl.u32_at-blocks.ensures (omega arith) (omega arith) _ cl.check_lines-bad.ensures c.if-bad-ne0.true
 
-returns-5 : tie.Need-returns-5
+returns-5 : tie.Need-returns-then-not-is_filled
 unfolding block_count
 returns-5 c =
-    let e4 = c.before.before in
-    directory_fill _ (omega arith) _ e4.before.before.before.before.u32-at.ensures (omega arith) (omega arith)
-    (sym e4.before.check-lines.ensures ∙ e4.if4.false) (sym c.before.is-filled.ensures ∙ not-true _ c.if5.true)
+    let e4 = c in
+    directory_fill _ (omega arith) _ e4.u32_at-blocks.ensures (omega arith) (omega arith)
+    (sym e4.check_lines-bad.ensures ∙ e4.if-bad-ne0.false) (sym c.is_filled.ensures ∙ c.if-not-is_filled.true)
 
-returns-6 : tie.Need-returns-6
+returns-6 : tie.Need-returns
 unfolding block_count
 returns-6 c =
-    let e4 = c.before.before in
-    directory_good _ (omega arith) _ e4.before.before.before.before.u32-at.ensures (omega arith) (omega arith)
-    (sym e4.before.check-lines.ensures ∙ e4.if4.false) (sym c.before.is-filled.ensures ∙ not-false _ c.if5.false)
+    let e4 = c in
+    directory_good _ (omega arith) _ e4.u32_at-blocks.ensures (omega arith) (omega arith)
+    (sym e4.check_lines-bad.ensures ∙ e4.if-bad-ne0.false) (sym c.is_filled.ensures ∙ c.if-not-is_filled.false)
 
 pub check_directory_spec : {M : Type 1} → statement M
 check_directory_spec =

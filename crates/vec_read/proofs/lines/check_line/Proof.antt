@@ -9,41 +9,41 @@ use borrow.Author.Rules.{rules}
 use Rattle.vec_read.proofs.lines.check_line.Statement.{statement}
 use Rattle.vec_read.proofs.lines.check_line.Tie as tie
 
-returns : tie.Need-returns
+returns : tie.Need-returns-then-count-lt1
 returns c =
-    let s = c.before.before.before in
+    let s = c in
     let l = line_is s.args.s.now s.args.at in line_count_none _ (omega (arith, l.count))
 
-returns-2 : tie.Need-returns-2
+returns-2 : tie.Need-returns-then-count-gt-MAX_VECTORS
 returns-2 c =
-    let s = c.before.before.before.before in
+    let s = c in
     let l = line_is s.args.s.now s.args.at in line_count_over _ (omega (arith, l.count))
 
-returns-3 : tie.Need-returns-3
+returns-3 : tie.Need-returns-then-dim-lt1
 returns-3 c =
-    let s = c.before.before.before.before.before.before in
+    let s = c in
     let l = line_is s.args.s.now s.args.at in line_dim_none _ (omega (arith, l.count)) (omega (arith, l.count)) (omega (arith, l.dim))
 
-returns-4 : tie.Need-returns-4
+returns-4 : tie.Need-returns-then-dim-gt-MAX_DIM
 returns-4 c =
-    let s = c.before.before.before.before.before.before.before in
+    let s = c in
     let l = line_is s.args.s.now s.args.at in line_dim_over _ (omega (arith, l.count)) (omega (arith, l.count)) (omega (arith, l.dim))
 
-cast-width-of : tie.Need-overflow-cast-width-of
-cast-width-of c = omega (arith, c.shared-slice-known2.given (c.before.before.before.before.before.before.before.before.args.at + 10))
+cast-width-of : tie.Need-overflow_cast-s
+cast-width-of c = omega (arith, c.shared_slice_known-2-1.given (c.args.at + 10))
 
-returns-5 : tie.Need-returns-5
+returns-5 : tie.Need-returns-then-width_of-eq0
 returns-5 c =
-    let s = c.before.before.before.before.before.before.before.before.before.before in
+    let s = c in
     let l = line_is s.args.s.now s.args.at in
     line_dtype _ (omega (arith, l.count)) (omega (arith, l.count)) (omega (arith, l.dim))
-    (omega (arith, l.dim)) (ap width l.dtype ∙ sym c.before.width_of_lem.ensures ∙ c.if5.true)
+    (omega (arith, l.dim)) (ap width l.dtype ∙ sym c.width_of.ensures ∙ c.if-width_of-eq0.true)
 
-returns-6 : tie.Need-returns-6
+returns-6 : tie.Need-returns
 returns-6 c =
-    let s = c.before.before.before.before.before.before.before.before.before.before in
+    let s = c in
     let l = line_is s.args.s.now s.args.at in
-    let w = ap width l.dtype ∙ sym c.before.width_of_lem.ensures in
+    let w = ap width l.dtype ∙ sym c.width_of.ensures in
     line_good _ (omega (arith, l.count)) (omega (arith, l.count)) (omega (arith, l.dim)) (omega (arith, l.dim)) (omega (arith, w))
 
 pub check_line_spec : {M : Type 1} → statement M

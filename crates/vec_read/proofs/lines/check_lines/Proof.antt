@@ -8,27 +8,27 @@ use borrow.Author.Rules.{rules}
 use Rattle.vec_read.proofs.lines.check_lines.Statement.{statement}
 use Rattle.vec_read.proofs.lines.check_lines.Tie as tie
 
-abbrev invariant-loop : tie.invariant-loop
-invariant-loop s blocks i₀ i = LinesAt s blocks i
+abbrev invariant-loop-i : tie.invariant-loop-i
+invariant-loop-i s blocks i₀ i = LinesAt s blocks i
 
-abbrev decreases-loop : tie.decreases-loop
-decreases-loop s blocks i₀ i = blocks - i
+abbrev decreases-loop-i : tie.decreases-loop-i
+decreases-loop-i s blocks i₀ i = blocks - i
 
-loop-holds : tie.Need-loop-init invariant-loop decreases-loop
+loop-holds : tie.Need-loop-i-init invariant-loop-i decreases-loop-i
 loop-holds c = lines_first _ _
 
-returns : tie.Need-returns invariant-loop decreases-loop
-returns c = lines_stop _ _ _ c.before.before.before.loop.invariant (omega arith) _ c.before.check-line.ensures c.if1.true
+returns : tie.Need-returns-then-bad-ne0 invariant-loop-i decreases-loop-i
+returns c = lines_stop _ _ _ c.loop-i.invariant (omega arith) _ c.check_line-bad.ensures c.if-bad-ne0.true
 
-loop-again : tie.Need-loop-preserved invariant-loop decreases-loop
-loop-again c = lines_next _ _ _ c.before.before.before.loop.invariant (omega arith) (sym c.before.check-line.ensures ∙ c.if1.false)
+loop-again : tie.Need-loop-i-preserved invariant-loop-i decreases-loop-i
+loop-again c = lines_next _ _ _ c.loop-i.invariant (omega arith) (sym c.check_line-bad.ensures ∙ c.if-bad-ne0.false)
 
-returns-2 : tie.Need-returns-2 invariant-loop decreases-loop
-returns-2 c = lines_last _ _ _ c.before.loop.invariant (omega arith)
+returns-2 : tie.Need-returns invariant-loop-i decreases-loop-i
+returns-2 c = lines_last _ _ _ c.loop-i.invariant (omega arith)
 
 pub check_lines_spec : {M : Type 1} → statement M
 check_lines_spec =
     tie.close
     (tie.spec
-    invariant-loop decreases-loop loop-holds (search rules) (search rules) (search rules) returns (search rules)
+    invariant-loop-i decreases-loop-i loop-holds (search rules) (search rules) (search rules) returns (search rules)
     (search rules) loop-again returns-2)

@@ -10,25 +10,25 @@ use borrow.Author.Rules.{rules}
 use Rattle.vec_read.proofs.values.component_at.Statement.{statement}
 use Rattle.vec_read.proofs.values.component_at.Tie as tie
 
-u32-at-requires : tie.Need-u32-at-requires
+u32-at-requires : tie.Need-u32_at-requires
 unfolding width
-u32-at-requires c κs = rw c.if1.true at c.before.before.requires.1
+u32-at-requires c κs = rw c.if-dtype-eq0.true at c.requires.1
 
-returns : tie.Need-returns
+returns : tie.Need-returns-then-dtype-eq0
 returns c =
-    let s = c.before.before.before.before in
-    ap Float c.float_of.ensures ∙ component_float s.args.s.now s.args.at _ _ c.before.before.if1.true c.before.u32-at.ensures
+    let s = c in
+    ap Float c.float_of.ensures ∙ component_float s.args.s.now s.args.at _ _ c.if-dtype-eq0.true c.u32_at.ensures
 
-returns-2 : tie.Need-returns-2
+returns-2 : tie.Need-returns-then-dtype-eq3
 returns-2 c =
-    let s = c.before.before.before.before.before in
+    let s = c in
     let e : to_z w8 (of_z w8 c.Signed-of.result) ≡ c.Signed-of.result = search rules in
-    ap Signed (e ∙ c.Signed-of.ensures) ∙ component_signed s.args.s.now s.args.at _ c.before.before.if2.true
+    ap Signed (e ∙ c.Signed-of.ensures) ∙ component_signed s.args.s.now s.args.at _ c.if-dtype-eq3.true
 
-returns-3 : tie.Need-returns-3
+returns-3 : tie.Need-returns
 returns-3 c =
-    let s = c.before.before.before.before in
-    component_unsigned s.args.s.now s.args.at _ c.before.before.if1.false c.before.if2.false s.requires.0
+    let s = c in
+    component_unsigned s.args.s.now s.args.at _ c.if-dtype-eq0.false c.if-dtype-eq3.false s.requires.0
 
 pub component_at_spec : {M : Type 1} → statement M
 component_at_spec =

@@ -6,14 +6,14 @@ use borrow.Author.Rules.{rules}
 use Rattle.vec_read.proofs.walk.check_summed.Statement.{statement}
 use Rattle.vec_read.proofs.walk.check_summed.Tie as tie
 
-returns : tie.Need-returns
-returns c = summed_bad _ _ _ (sym c.before.before.before.walk.ensures ∙ c.before.w.given.1)
+returns : tie.Need-returns-in-Refused
+returns c = summed_bad _ _ _ (sym c.walk-w.ensures ∙ c.in-Refused.is)
 
-returns-2 : tie.Need-returns-2
-returns-2 c = summed_sound _ _ _ (sym c.before.before.before.walk.ensures ∙ c.before.w2.given.1)
+returns-2 : tie.Need-returns-in-Missing
+returns-2 c = summed_sound _ _ _ (sym c.walk-w.ensures ∙ c.in-Missing.is)
 
-returns-3 : tie.Need-returns-3
-returns-3 c = absurd (never_at _ _ _ _ _ _ _ _ _ (sym c.before.before.before.walk.ensures ∙ c.before.w3.given.1))
+returns-3 : tie.Need-returns-in-At
+returns-3 c = absurd (never_at _ _ _ _ _ _ _ _ _ (sym c.walk-w.ensures ∙ c.in-At.is))
 
 pub check_summed_spec : {M : Type 1} → statement M
 check_summed_spec = tie.close (tie.spec (search rules) (search rules) (search rules) (search rules) returns returns-2 returns-3)

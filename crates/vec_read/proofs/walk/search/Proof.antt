@@ -8,16 +8,16 @@ use borrow.Author.Rules.{rules}
 use Rattle.vec_read.proofs.walk.search.Statement.{statement}
 use Rattle.vec_read.proofs.walk.search.Tie as tie
 
-returns : tie.Need-returns
-returns c = walked_bad true true _ _ _ (c.before.check-directory.ensures.bad c.if1.true) c.if1.true ∙ searched_walk _ _
+returns : tie.Need-returns-then-bad-ne0
+returns c = walked_bad true true _ _ _ (c.check_directory-bad.ensures.bad c.if-bad-ne0.true) c.if-bad-ne0.true ∙ searched_walk _ _
 
-walk-blocks-requires : tie.Need-walk-blocks-requires
+walk-blocks-requires : tie.Need-walk_blocks-requires
 walk-blocks-requires c κs =
-    let e = c.before in
-    let g = e.before.check-directory.ensures.good e.if1.false in (g, counts_more _ _ _ _ (counts_good _ g) (search rules))
+    let e = c in
+    let g = e.check_directory-bad.ensures.good e.if-bad-ne0.false in (g, counts_more _ _ _ _ (counts_good _ g) (search rules))
 
-returns-2 : tie.Need-returns-2
-returns-2 c = c.before.before.walk-blocks.ensures ∙ searched_walk _ _
+returns-2 : tie.Need-returns
+returns-2 c = c.walk_blocks.ensures ∙ searched_walk _ _
 
 pub search_spec : {M : Type 1} → statement M
 search_spec = tie.close (tie.spec (search rules) returns walk-blocks-requires (search rules) returns-2)

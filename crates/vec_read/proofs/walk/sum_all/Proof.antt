@@ -7,13 +7,13 @@ use borrow.Author.Rules.{rules}
 use Rattle.vec_read.proofs.walk.sum_all.Statement.{statement}
 use Rattle.vec_read.proofs.walk.sum_all.Tie as tie
 
-returns : tie.Need-returns
-returns c = sum_not _ _ (not-true _ c.if1.true)
+returns : tie.Need-returns-then-not-summed
+returns c = sum_not _ _ (c.if-not-summed.true)
 
-returns-2 : tie.Need-returns-2
+returns-2 : tie.Need-returns
 returns-2 c =
-    let e = c.before.before in
-    sum_last _ _ _ _ _ e.before.before.requires (not-false _ e.if1.false) refl _ c.extend.ensures
+    let e = c in
+    sum_last _ _ _ _ _ e.requires (e.if-not-summed.false) refl _ c.extend.ensures
 
 pub sum_all_spec : {M : Type 1} → statement M
 sum_all_spec = tie.close (tie.spec returns (search rules) (search rules) (search rules) (search rules) returns-2)

@@ -6,12 +6,12 @@ use borrow.Author.Rules.{rules}
 use Rattle.vec_read.proofs.walk.sum_on.Statement.{statement}
 use Rattle.vec_read.proofs.walk.sum_on.Tie as tie
 
-returns-3 : tie.Need-returns-3
+returns-3 : tie.Need-returns
 returns-3 c =
-    let x = c.before.before.before in
-    let e1 = x.before.before.before in
-    let p = e1.before.before.requires in
-    sum_joined _ _ _ _ _ p.0 (not-false _ e1.if1.false) _ _ _ p.1.begins x.extend.ensures c.extend-by.ensures
+    let x = c in
+    let e1 = x in
+    let p = e1.requires in
+    sum_joined _ _ _ _ _ p.0 (e1.if-not-summed.false) _ _ _ p.1.begins x.extend-before.ensures c.extend_by.ensures
 
 pub sum_on_spec : {M : Type 1} → statement M
 sum_on_spec =

@@ -6,25 +6,25 @@ use borrow.Author.Rules.{rules}
 use Rattle.vec_read.proofs.walk.walk.Statement.{statement}
 use Rattle.vec_read.proofs.walk.walk.Tie as tie
 
-returns : tie.Need-returns
-returns c = walked_bad _ _ _ _ _ (c.before.check-directory.ensures.bad c.if1.true) c.if1.true
+returns : tie.Need-returns-then-bad-ne0
+returns c = walked_bad _ _ _ _ _ (c.check_directory-bad.ensures.bad c.if-bad-ne0.true) c.if-bad-ne0.true
 
-largest-count-requires : tie.Need-largest-count-requires
-largest-count-requires c κs = c.before.check-directory.ensures.good c.if1.false
+largest-count-requires : tie.Need-largest_count-requires
+largest-count-requires c κs = c.check_directory-bad.ensures.good c.if-bad-ne0.false
 
-walk-few-requires : tie.Need-walk-few-requires
+walk-few-requires : tie.Need-walk_few-requires
 walk-few-requires c κs =
-    let e = c.before.before in (
-      e.before.check-directory.ensures.good e.if1.false,
-      counts_more _ _ _ _ c.before.largest-count.ensures c.if2.true,
+    let e = c in (
+      e.check_directory-bad.ensures.good e.if-bad-ne0.false,
+      counts_more _ _ _ _ c.largest_count.ensures c.if-largest_count-le-FEW.true,
     )
 
-walk-many-requires : tie.Need-walk-many-requires
-walk-many-requires c κs = let e = c.before.before in e.before.check-directory.ensures.good e.if1.false
+walk-many-requires : tie.Need-walk_many-requires
+walk-many-requires c κs = let e = c in e.check_directory-bad.ensures.good e.if-bad-ne0.false
 
 pub walk_spec : {M : Type 1} → statement M
 walk_spec =
     tie.close
     (tie.spec
-    (search rules) returns largest-count-requires walk-few-requires (λ c. c.walk-few.ensures)
-    walk-many-requires (λ c. c.walk-many.ensures))
+    (search rules) returns largest-count-requires walk-few-requires (λ c. c.walk_few.ensures)
+    walk-many-requires (λ c. c.walk_many.ensures))

@@ -15,155 +15,134 @@ use borrow.Author.Rules.{rules}
 use Rattle.vec_read.proofs.walk.walk_blocks.Statement.{statement}
 use Rattle.vec_read.proofs.walk.walk_blocks.Tie as tie
 
-abbrev invariant-loop : tie.invariant-loop
-invariant-loop s id summed looking scratch₀ blocks sum₀ kept₀ i₀ at₀ scratch sum kept i at =
+abbrev invariant-loop-i : tie.invariant-loop-i
+invariant-loop-i s id summed looking scratch₀ blocks sum₀ kept₀ i₀ at₀ scratch sum kept i at =
     (WalkAt s id summed looking i at sum.value sum.to kept) × ((blocks ≡ block_count s) × (length scratch ≡ length scratch₀))
 
-abbrev decreases-loop : tie.decreases-loop
-decreases-loop s id summed looking scratch₀ blocks sum₀ kept₀ i₀ at₀ scratch sum kept i at = blocks - i
+abbrev decreases-loop-i : tie.decreases-loop-i
+decreases-loop-i s id summed looking scratch₀ blocks sum₀ kept₀ i₀ at₀ scratch sum kept i at = blocks - i
 
-abbrev call : tie.At-loop invariant-loop decreases-loop → tie.Start invariant-loop decreases-loop
-call l = l.before.before.before.before.before
+abbrev call : tie.At-loop-i invariant-loop-i decreases-loop-i → tie.Start invariant-loop-i decreases-loop-i
+call l = l.before
 
 -- a payload's length is far below what a number holds
-small : (x : tie.After-shared-slice-known invariant-loop decreases-loop) → length x.before.args.s.now + 64 ≤ 2 ^ 64
+small : (x : tie.After-shared_slice_known-1 invariant-loop-i decreases-loop-i) → length x.args.s.now + 64 ≤ 2 ^ 64
 small x = omega arith
 
 -- a block is left, and its line is there
-more : (b : tie.In-loop invariant-loop decreases-loop) → b.before.loop.i < block_count (call b.before).args.s.now
-more b = omega (arith, b.before.loop.invariant.1.0, b.loop-test.true)
+more : (b : tie.In-loop-i invariant-loop-i decreases-loop-i) → b.loop-i.i < block_count (call b.before).args.s.now
+more b = omega (arith, b.loop-i.invariant.1.0, b.loop-i-test.true)
 
-lines : (b : tie.In-loop invariant-loop decreases-loop) → 4 + 12 * b.before.loop.i + 12 ≤ length (call b.before).args.s.now
+lines : (b : tie.In-loop-i invariant-loop-i decreases-loop-i) → 4 + 12 * b.loop-i.i + 12 ≤ length (call b.before).args.s.now
 lines b =
-    let l = b.before in
-    turn_room _ (call l).requires.0 _ _ _ _ _ _ _ _ l.loop.invariant.0 (more b)
+    let l = b in
+    turn_room _ (call l).requires.0 _ _ _ _ _ _ _ _ l.loop-i.invariant.0 (more b)
 
 -- it begins in the payload
-at_in : (k : tie.After-shared-slice-known2 invariant-loop decreases-loop)
-    → k.before.before.before.before.before.before.loop.at ≤ length (call k.before.before.before.before.before.before).args.s.now
-at_in k = k.before.before.before.before.before.before.loop.invariant.0.blocks.inside
+at_in : (k : tie.After-shared_slice_known-in-loop-i-1 invariant-loop-i decreases-loop-i)
+    → k.loop-i.at ≤ length (call k.before).args.s.now
+at_in k = k.loop-i.invariant.0.blocks.inside
 
 -- where a block is checked: what its line says, and where the walk stands
-module _ (cb : tie.After-check-block invariant-loop decreases-loop) where
-  abbrev u16 : tie.After-u16-at invariant-loop decreases-loop
-  u16 = cb.before.before.before.before
-
-  abbrev e1 : tie.Else1 invariant-loop decreases-loop
-  e1 = u16.before.before
-
-  abbrev l : tie.At-loop invariant-loop decreases-loop
-  l = e1.before.before.before
-
-  fits : u16.before.u32-at3.result ≤ length (call l).args.scratch.now
-  fits = count_fits _ _ _ (call l).pre.1 _ (more e1.before.before) _ u16.before.u32-at3.ensures
+module _ (cb : tie.After-check_block-b invariant-loop-i decreases-loop-i) where
+  fits : cb.u32_at-count.result ≤ length (call l).args.scratch.now
+  fits = count_fits _ _ _ (call l).requires.1 _ (more cb.before.before.before.before.before.before.before.before) _ cb.u32_at-count.ensures
 
 -- where a block is sound: it lies in the payload
-inside : (k : tie.After-known-told2 invariant-loop decreases-loop)
-    → ((l k.before.before.before.before.before).loop.at + round64 (k.before.b2.given.0.0 + 4) ≤ length (call (l k.before.before.before.before.before)).args.s.now)
-    × ((k.before.b2.given.0.0 + 4 ≤ round64 (k.before.b2.given.0.0 + 4))
-    × (length (call (l k.before.before.before.before.before)).args.s.now + 64 ≤ 2 ^ 64))
+inside : (k : tie.In-Sound invariant-loop-i decreases-loop-i)
+    → ((l k.before).loop-i.at + round64 (k.in-Sound.n + 4) ≤ length (call (l k.before)).args.s.now)
+    × ((k.in-Sound.n + 4 ≤ round64 (k.in-Sound.n + 4))
+    × (length (call (l k.before)).args.s.now + 64 ≤ 2 ^ 64))
 inside k =
-    let cb = k.before.before.before.before.before in (
-      turn_inside _ (call (l cb)).pre.0 _ _ _ _ _ _ _ _ (l cb).loop.invariant.0 (more (e1 cb).before.before) (sym (e1 cb).before.u32-at2.ensures ∙ (e1 cb).if1.false) _ _ _
-          (u16 cb).before.u32-at3.ensures (u16 cb).u16-at.ensures refl _ _ cb.check-block.ensures k.before.b2.given.0.0 k.before.b2.given.1,
-      (round64_ge (k.before.b2.given.0.0 + 4), small (l cb).before.before.before.before),
+    let cb = k in (
+      turn_inside _ (call cb).requires.0 _ _ _ _ _ _ _ _ cb.loop-i.invariant.0 (more k.before.before.before.before.before.before.before.before.before.before.before) (sym cb.u32_at.ensures ∙ cb.if-u32_at-at.false) _ _ _
+          cb.u32_at-count.ensures cb.u16_at-dim.ensures refl _ _ cb.check_block-b.ensures k.in-Sound.n k.in-Sound.is,
+      (round64_ge (k.in-Sound.n + 4), small k.before.before.before.before.before.before.before.before.before.before.before.before.before.before.before.before),
     )
 
-round-up-requires : tie.Need-round-up-requires invariant-loop decreases-loop
+round-up-requires : tie.Need-round_up-at-requires invariant-loop-i decreases-loop-i
 unfolding block_count
-round-up-requires c κs = omega (arith, c.u32-at.ensures)
+round-up-requires c κs = omega (arith, c.u32_at-blocks.ensures)
 
-loop-holds : tie.Need-loop-init invariant-loop decreases-loop
+loop-holds : tie.Need-loop-i-init invariant-loop-i decreases-loop-i
 unfolding block_count
 loop-holds c = (
-  walk_first _ c.before.before.before.before.requires.0 _ _ _ _ (c.round_up.ensures ∙ ap (λ (n : ℕ). round64 (4 + 12 * n)) c.before.u32-at.ensures),
-  (c.before.u32-at.ensures, refl),
+  walk_first _ c.requires.0 _ _ _ _ (c.round_up-at.ensures ∙ ap (λ (n : ℕ). round64 (4 + 12 * n)) c.u32_at-blocks.ensures),
+  (c.u32_at-blocks.ensures, refl),
 )
 
-returns : tie.Need-returns invariant-loop decreases-loop
+returns : tie.Need-returns-then-u32_at-at invariant-loop-i decreases-loop-i
 returns c =
-    let l = c.before.before.before in
-    turn_offset _ (call l).requires.0 _ _ _ _ _ _ _ _ l.loop.invariant.0 (omega arith) (λ e. c.if1.true (c.before.u32-at2.ensures ∙ e))
+    let l = c in
+    turn_offset _ (call l).requires.0 _ _ _ _ _ _ _ _ l.loop-i.invariant.0 (omega arith) (λ e. c.if-u32_at-at.true (c.u32_at.ensures ∙ e))
 
-check-block-requires : tie.Need-check-block-requires invariant-loop decreases-loop
+check-block-requires : tie.Need-check_block-b-requires invariant-loop-i decreases-loop-i
 check-block-requires c κs =
-    let u = c.before.before.before in
-    let e = u.before.before in
-    let l = e.before.before.before in
-    let b = turn_bounds _ (call l).requires.0 _ _ _ _ _ _ _ _ l.loop.invariant.0 (omega arith) (sym e.before.u32-at2.ensures ∙ e.if1.false) _ _ _
-    u.before.u32-at3.ensures u.u16-at.ensures refl in
-    let fits = count_fits _ _ _ (call l).requires.1 _ (more e.before.before) _ u.before.u32-at3.ensures in
-    (b.0, (b.1, (omega (arith, fits, l.loop.invariant.1.1), b.2)))
+    let u = c in
+    let e = u in
+    let l = e in
+    let b = turn_bounds _ (call l).requires.0 _ _ _ _ _ _ _ _ l.loop-i.invariant.0 (omega arith) (sym e.u32_at.ensures ∙ e.if-u32_at-at.false) _ _ _
+    u.u32_at-count.ensures u.u16_at-dim.ensures refl in
+    let fits = count_fits _ _ _ (call l).requires.1 _ (more c.before.before.before.before.before.before.before) _ u.u32_at-count.ensures in
+    (b.0, (b.1, (omega (arith, fits, l.loop-i.invariant.1.1), b.2)))
 
-returns-2 : tie.Need-returns-2 invariant-loop decreases-loop
+returns-2 : tie.Need-returns-in-Refused invariant-loop-i decreases-loop-i
 returns-2 c =
-    let cb = c.before.before.before.before.before in
-    turn_bad _ (call (l cb)).pre.0 _ _ _ _ _ _ _ _ (l cb).loop.invariant.0 (more (e1 cb).before.before) (sym (e1 cb).before.u32-at2.ensures ∙ (e1 cb).if1.false) _ _ _
-    (u16 cb).before.u32-at3.ensures (u16 cb).u16-at.ensures refl _ _ cb.check-block.ensures _ c.before.b.given.1
+    let cb = c in
+    turn_bad _ (call cb).requires.0 _ _ _ _ _ _ _ _ cb.loop-i.invariant.0 (more c.before.before.before.before.before.before.before.before.before.before.before) (sym cb.u32_at.ensures ∙ cb.if-u32_at-at.false) _ _ _
+    cb.u32_at-count.ensures cb.u16_at-dim.ensures refl _ _ cb.check_block-b.ensures _ c.in-Refused.is
 
-sum-on-requires : tie.Need-sum-on-requires invariant-loop decreases-loop
+sum-on-requires : tie.Need-sum_on-sum-requires invariant-loop-i decreases-loop-i
 sum-on-requires c κs =
-    let cb = c.before.before.before.before.before in (
-      (l cb).loop.invariant.0.sum,
-      turn_holds _ (call (l cb)).pre.0 _ _ _ _ _ _ _ _ (l cb).loop.invariant.0 (more (e1 cb).before.before) (sym (e1 cb).before.u32-at2.ensures ∙ (e1 cb).if1.false) _ _ _
-          (u16 cb).before.u32-at3.ensures (u16 cb).u16-at.ensures refl _ _ cb.check-block.ensures _ c.before.b2.given.1,
+    let cb = c in (
+      cb.loop-i.invariant.0.sum,
+      turn_holds _ (call cb).requires.0 _ _ _ _ _ _ _ _ cb.loop-i.invariant.0 (more c.before.before.before.before.before.before.before.before.before.before.before) (sym cb.u32_at.ensures ∙ cb.if-u32_at-at.false) _ _ _
+          cb.u32_at-count.ensures cb.u16_at-dim.ensures refl _ _ cb.check_block-b.ensures _ c.in-Sound.is,
     )
 
-look-requires : tie.Need-look-requires invariant-loop decreases-loop
+look-requires : tie.Need-look-place-requires invariant-loop-i decreases-loop-i
 look-requires c κs =
-    let cb = c.before.before.before.before.before.before.before in
-    omega (arith, fits cb, cb.check-block.auto.1.1.1.1, (l cb).loop.invariant.1.1)
+    let cb = c in
+    omega (arith, fits c.before.before.before.before, cb.check_block-b.auto.1.1.1.1, cb.loop-i.invariant.1.1)
 
-loop-again : tie.Need-loop-preserved invariant-loop decreases-loop
+loop-again : tie.Need-loop-i-preserved invariant-loop-i decreases-loop-i
 loop-again c =
-    let lk = c.before.before in
-    let so = lk.before.before in
-    let k = so.before in
-    let cb = k.before.before.before.before.before in (
-      turn_next _ (call (l cb)).pre.0 _ _ _ _ _ _ _ _ (l cb).loop.invariant.0 (more (e1 cb).before.before) (sym (e1 cb).before.u32-at2.ensures ∙ (e1 cb).if1.false) _ _ _
-          (u16 cb).before.u32-at3.ensures (u16 cb).u16-at.ensures refl _ _ cb.check-block.ensures _ k.before.b2.given.1 _ _ _ _
-          c.round-up2.ensures so.sum-on.ensures
-          (⊎_elim (λ w. w.3 ∙ looked_here _ _ _ _ _ _ _ (sym lk.look.ensures ∙ w.1.given.1))
-          (λ w. w.2 ∙ looked_past _ _ _ _ _ _ (sym lk.look.ensures ∙ w.1.given.1)) c.before.match2.branch),
-      ((l cb).loop.invariant.1.0, cb.check-block.auto.1.1.1.1.0 ∙ (l cb).loop.invariant.1.1),
+    let lk = c in
+    let so = lk in
+    let k = so in
+    let cb = k in (
+      turn_next _ (call cb).requires.0 _ _ _ _ _ _ _ _ cb.loop-i.invariant.0 (more c.before.before.before.before.before.before.before.before.before.before.before.before.before.before.before) (sym cb.u32_at.ensures ∙ cb.if-u32_at-at.false) _ _ _
+          cb.u32_at-count.ensures cb.u16_at-dim.ensures refl _ _ cb.check_block-b.ensures _ k.in-Sound.is _ _ _ _
+          c.round_up-at-in-Sound.ensures so.sum_on-sum.ensures
+          (⊎_elim (λ w. w.3 ∙ looked_here _ _ _ _ _ _ _ (sym lk.look-place.ensures ∙ w.1.given.1))
+          (λ w. w.2 ∙ looked_past _ _ _ _ _ _ (sym lk.look-place.ensures ∙ w.1.given.1)) c.in-Place.branch),
+      (cb.loop-i.invariant.1.0, cb.check_block-b.auto.1.1.1.1.0 ∙ cb.loop-i.invariant.1.1),
     )
 
-returns-3 : tie.Need-returns-3 invariant-loop decreases-loop
+returns-3 : tie.Need-returns-then-s-at invariant-loop-i decreases-loop-i
 returns-3 c =
-    let l = c.before.before in
-    walk_more _ (call l).requires.0 _ _ _ _ _ _ _ _ l.loop.invariant.0 (omega arith) c.if2.true
+    let l = c in
+    walk_more _ (call l).requires.0 _ _ _ _ _ _ _ _ l.loop-i.invariant.0 (omega arith) c.if-s-at.true
 
-sum-all-requires : tie.Need-sum-all-requires invariant-loop decreases-loop
+sum-all-requires : tie.Need-sum_all-all-requires invariant-loop-i decreases-loop-i
 sum-all-requires c κs =
-    let l = c.before.before in
-    walk_sum _ (call l).requires.0 _ _ _ _ _ _ _ _ l.loop.invariant.0 (omega arith) c.if2.false
+    let l = c in
+    walk_sum _ (call l).requires.0 _ _ _ _ _ _ _ _ l.loop-i.invariant.0 (omega arith) c.if-s-at.false
 
-returns-4 : tie.Need-returns-4 invariant-loop decreases-loop
+returns-4 : tie.Need-returns-in-Nowhere invariant-loop-i decreases-loop-i
 returns-4 c =
-    let sa = c.before.before in
-    let l = sa.before.before.before in
-    walk_missing _ (call l).requires.0 _ _ _ _ _ _ _ _ l.loop.invariant.0 (omega arith) sa.before.if2.false _ sa.sum-all.ensures c.enum-told2.given.1
+    let sa = c in
+    let l = sa in
+    walk_missing _ (call l).requires.0 _ _ _ _ _ _ _ _ l.loop-i.invariant.0 (omega arith) sa.if-s-at.false _ sa.sum_all-all.ensures c.in-Nowhere.is
 
-returns-5 : tie.Need-returns-5 invariant-loop decreases-loop
+returns-5 : tie.Need-returns-in-At invariant-loop-i decreases-loop-i
 returns-5 c =
-    let sa = c.before.before.before in
-    let l = sa.before.before.before in
-    walk_found _ (call l).requires.0 _ _ _ _ _ _ _ _ l.loop.invariant.0 (omega arith) sa.before.if2.false _ sa.sum-all.ensures _ _ _ _ _ c.before.kept.given.1
+    let sa = c in
+    let l = sa in
+    walk_found _ (call l).requires.0 _ _ _ _ _ _ _ _ l.loop-i.invariant.0 (omega arith) sa.if-s-at.false _ sa.sum_all-all.ensures _ _ _ _ _ c.in-At.is
 
 pub walk_blocks_spec : {M : Type 1} → statement M
 walk_blocks_spec =
     tie.close
     (tie.spec
-    invariant-loop decreases-loop (search rules) (search rules) (search rules) (search rules) round-up-requires
-    loop-holds (λ c. omega (arith, lines c)) (λ c. omega (arith, lines c)) (λ c κs. omega (arith, lines c)) (search rules) (search rules) returns
-    (λ c. omega (arith, lines c.before.before)) (λ c κs. omega (arith, lines c.before.before)) (search rules)
-    (λ c. omega (arith, lines c.before.before.before)) (λ c κs. omega (arith, lines c.before.before.before)) (search rules)
-    (λ c. omega (arith, lines c.before.before.before.before)) (λ c. omega (arith, lines c.before.before.before.before.before))
-    (λ c. let w = at_in c in omega arith) (λ c. let w = at_in c in omega arith) (search rules) check-block-requires
-    (search rules) (search rules) returns-2 (search rules)
-    (λ c. omega (arith, inside c)) sum-on-requires look-requires (search rules) (search rules)
-    (λ c. omega (arith, inside c.before.before.before.before))
-    (λ c κs. omega (arith, inside c.before.before.before.before))
-    (λ c. omega (arith, inside c.before.before.before.before.before, c.round-up2.ensures))
-    (search rules) (search rules) loop-again (search rules) returns-3 sum-all-requires (search rules) (search rules) (search rules) returns-4
-    (search rules) returns-5)
+    invariant-loop-i decreases-loop-i (search rules) (search rules) (search rules) (search rules) round-up-requires loop-holds (λ c. omega (arith, lines c)) (λ c. omega (arith, lines c)) (λ c κs. omega (arith, lines c)) (search rules) (search rules) returns (λ c. omega (arith, lines c.before.before)) (λ c κs. omega (arith, lines c.before.before)) (search rules) (λ c. omega (arith, lines c.before.before.before)) (λ c κs. omega (arith, lines c.before.before.before)) (search rules) (λ c. omega (arith, lines c.before.before.before.before)) (λ c. omega (arith, lines c.before.before.before.before.before)) (λ c. let w = at_in c in omega arith) (λ c. let w = at_in c in omega arith) (search rules) check-block-requires (search rules) (search rules) returns-2 (search rules) (λ c. omega (arith, inside c)) sum-on-requires look-requires (search rules) (search rules) (λ c. omega (arith, inside c.before.before.before)) (λ c κs. omega (arith, inside c.before.before.before)) (λ c. omega (arith, inside c.before.before.before.before, c.round_up-at-in-Sound.ensures)) (search rules) (search rules) loop-again (search rules) returns-3 sum-all-requires (search rules) (search rules) (search rules) returns-4 (search rules) returns-5)

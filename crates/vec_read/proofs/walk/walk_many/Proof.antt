@@ -5,11 +5,11 @@ use borrow.Author.Rules.{rules}
 use Rattle.vec_read.proofs.walk.walk_many.Statement.{statement}
 use Rattle.vec_read.proofs.walk.walk_many.Tie as tie
 
-walk-blocks-requires : tie.Need-walk-blocks-requires
-walk-blocks-requires c κs = let g = c.before.before.requires in (g, counts_good _ g)
+walk-blocks-requires : tie.Need-walk_blocks-requires
+walk-blocks-requires c κs = let g = c.requires in (g, counts_good _ g)
 
 returns : tie.Need-returns
-returns c = c.before.walk-blocks.ensures
+returns c = c.walk_blocks.ensures
 
 pub walk_many_spec : {M : Type 1} → statement M
 walk_many_spec = tie.close (tie.spec (search rules) walk-blocks-requires returns)
