@@ -14,55 +14,54 @@ use borrow.Author.Rules.{rules}
 use Rattle.confirm.proofs.is_confirmed.Statement.{statement}
 use Rattle.confirm.proofs.is_confirmed.Tie as tie
 
-returns : tie.Need-returns
-returns c = other_kind _ _ _ _ _ _ c.if1.true
+returns : tie.Need-returns-then-kind-ne-KIND
+returns c = other_kind _ _ _ _ _ _ c.if-kind-ne-KIND.true
 
-returns-2 : tie.Need-returns-2
+returns-2 : tie.Need-returns-then-n-gt-MAX_ENTRIES
 returns-2 c =
-    let s = c.before.before.before.before in
+    let s = c in
     let e = length-take-le s.args.n s.args.offsets.now s.requires.0.0 in
     let h : 1024 < length (take s.args.n s.args.offsets.now) = omega (arith, e) in
     too_many _ _ _ _ _ _ h
 
-add-if3 : tie.Need-overflow-add-if3
+add-if3 : tie.Need-overflow_add-round_up
 unfolding round64
 add-if3 c = omega (arith, c.round_up.ensures)
 
-returns-3 : tie.Need-returns-3
+returns-3 : tie.Need-returns-then-len-round_up
 unfolding payload_length record_by
 returns-3 c =
-    let s = c.before.before.before.before.before.before in
+    let s = c in
     let e = length-take-le s.args.n s.args.offsets.now s.requires.0.0 in
     other_length _ _ _ _ _ _ s.requires.0.1 s.requires.1
-    (λ q. c.if3.true (q ∙ ap (λ (m : ℕ). round64 (8 + 48 * m) + 4096) e ∙ ap (λ (m : ℕ). m + 4096) (sym c.before.round_up.ensures)))
+    (λ q. c.if-len-round_up.true (q ∙ ap (λ (m : ℕ). round64 (8 + 48 * m) + 4096) e ∙ ap (λ (m : ℕ). m + 4096) (sym c.round_up.ensures)))
 
-slice-aggregate-confirm-with : tie.Need-slice-aggregate-confirm-with
+slice-aggregate-confirm-with : tie.Need-slice_bounds-confirm_with-end
 slice-aggregate-confirm-with c =
-    let s = c.before.before.before.before.before.before.before in
+    let s = c in
     sym (length-take-le s.args.n s.args.offsets.now s.requires.0.0)
 
-confirm-with-requires : tie.Need-confirm-with-requires
+confirm-with-requires : tie.Need-confirm_with-requires
 unfolding payload_length record_by round64
 confirm-with-requires c κs =
-    let e3 = c.before.before.before in
-    let s = e3.before.before.before.before.before.before in
+    let e3 = c in
+    let s = e3 in
     let n = s.args.n in
     let e : length (take n s.args.offsets.now) ≡ n = length-take-le n s.args.offsets.now s.requires.0.0 in
-    let r = e3.before.round_up.ensures in
-    let l = e3.if3.false in
+    let r = e3.round_up.ensures in
+    let l = e3.if-len-round_up.false in
     ((s.requires.0.1, omega (arith, e, r, l)), ((omega (arith, e), omega (arith, e)), (omega (arith, r, l), s.requires.1)))
 
-returns-4 : tie.Need-returns-4
+returns-4 : tie.Need-returns
 returns-4 c =
-    let e1 = c.before.before.before.before.before.before.before.before.before in
-    let s = e1.before.before.before in
-    c.before.before.confirm-with.ensures
+    let e1 = c in
+    let s = e1 in
+    c.confirm_with.ensures
     ∙ ap (λ (k : ℕ). confirmed_at s.args.file.now (take s.args.n s.args.offsets.now) s.args.at
-    s.args.len k s.args.id) (sym e1.if1.false)
+    s.args.len k s.args.id) (sym e1.if-kind-ne-KIND.false)
 
 pub is_confirmed_spec : {M : Type 1} → statement M
 is_confirmed_spec =
     tie.close
     (tie.spec
-    returns returns-2 (search rules) (search rules) (search rules) add-if3 returns-3
-    slice-aggregate-confirm-with (search rules) (search rules) confirm-with-requires returns-4)
+    returns returns-2 (search rules) (search rules) (search rules) add-if3 returns-3 slice-aggregate-confirm-with (search rules) (search rules) confirm-with-requires returns-4)

@@ -10,41 +10,40 @@ use borrow.Author.Rules.{rules}
 use Rattle.confirm.proofs.states_held.Statement.{statement}
 use Rattle.confirm.proofs.states_held.Tie as tie
 
-abbrev invariant-loop : tie.invariant-loop
-invariant-loop file offsets states i₀ i = HeldAt file offsets states i
+abbrev invariant-loop-i : tie.invariant-loop-i
+invariant-loop-i file offsets states i₀ i = HeldAt file offsets states i
 
-abbrev decreases-loop : tie.decreases-loop
-decreases-loop file offsets states i₀ i = length offsets - i
+abbrev decreases-loop-i : tie.decreases-loop-i
+decreases-loop-i file offsets states i₀ i = length offsets - i
 
-loop-holds : tie.Need-loop-init invariant-loop decreases-loop
-loop-holds c = held_first _ _ _ c.before.before.before.requires.0
+loop-holds : tie.Need-loop-i-init invariant-loop-i decreases-loop-i
+loop-holds c = held_first _ _ _ c.requires.0
 
-add-kind : tie.Need-overflow-add-kind invariant-loop decreases-loop
-add-kind c = omega (arith, c.before.before.before.before.before.before.requires.1 c.before.before.loop.i (omega arith))
+add-kind : tie.Need-overflow_add-kind invariant-loop-i decreases-loop-i
+add-kind c = omega (arith, c.requires.1 c.loop-i.i (omega arith))
 
-shared-slice-read-kind : tie.Need-shared-slice-read-kind invariant-loop decreases-loop
+shared-slice-read-kind : tie.Need-bounds-file-offset invariant-loop-i decreases-loop-i
 shared-slice-read-kind c =
-    let l = c.before.before.before in
-    omega (arith, l.before.before.before.before.requires.1 l.loop.i (omega arith))
+    let l = c in
+    omega (arith, l.requires.1 l.loop-i.i (omega arith))
 
-returns : tie.Need-returns invariant-loop decreases-loop
+returns : tie.Need-returns-then-not-state_held invariant-loop-i decreases-loop-i
 returns c =
-    let l = c.before.before.before.before.before.before in
-    held_stop _ _ _ l.before.before.before.before.requires.0 l.loop.i l.loop.invariant (omega arith)
-    (sym c.before.state-held.ensures ∙ not-true _ c.if1.true)
+    let l = c in
+    held_stop _ _ _ l.requires.0 l.loop-i.i l.loop-i.invariant (omega arith)
+    (sym c.state_held.ensures ∙ c.if-not-state_held.true)
 
-loop-again : tie.Need-loop-preserved invariant-loop decreases-loop
+loop-again : tie.Need-loop-i-preserved invariant-loop-i decreases-loop-i
 loop-again c =
-    let l = c.before.before.before.before.before.before in
-    held_next _ _ _ l.before.before.before.before.requires.0 l.loop.i l.loop.invariant (omega arith)
-    (sym c.before.state-held.ensures ∙ not-false _ c.if1.false)
+    let l = c in
+    held_next _ _ _ l.requires.0 l.loop-i.i l.loop-i.invariant (omega arith)
+    (sym c.state_held.ensures ∙ c.if-not-state_held.false)
 
-returns-2 : tie.Need-returns-2 invariant-loop decreases-loop
-returns-2 c = held_last _ _ _ c.before.before.before.before.before.requires.0 c.before.loop.i c.before.loop.invariant (omega arith)
+returns-2 : tie.Need-returns invariant-loop-i decreases-loop-i
+returns-2 c = held_last _ _ _ c.requires.0 c.loop-i.i c.loop-i.invariant (omega arith)
 
 pub states_held_spec : {M : Type 1} → statement M
 states_held_spec =
     tie.close
     (tie.spec
-    invariant-loop decreases-loop loop-holds (search rules) (search rules) add-kind shared-slice-read-kind (search rules)
-    (search rules) returns (search rules) (search rules) loop-again returns-2)
+    invariant-loop-i decreases-loop-i loop-holds (search rules) (search rules) add-kind shared-slice-read-kind (search rules) (search rules) returns (search rules) (search rules) loop-again returns-2)

@@ -48,5 +48,4 @@ pub read_spec : {M : Type 1} → statement M
 read_spec =
     tie.close
     (tie.spec
-    (search rules) (search rules) (search rules) (search rules) read-vector-requires (search rules) (search rules)
-    returns returns-2 (search rules) returns-3 (search rules) returns-4)
+    (search rules) (search rules) (search rules) (search rules) read-vector-requires (search rules) (search rules) returns returns-2 (search rules) returns-3 (search rules) returns-4)

@@ -7,12 +7,11 @@ use Rattle.confirm.proofs.entries.copy_at.Tie as tie
 
 returns : tie.Need-returns
 returns c =
-    let s = c.before.before.before.before.before.before.before in
-    copied _ _ s.args.file.now _ s.args.from s.args.n c.before.before.copy.ensures s.requires.0 s.requires.1
+    let s = c in
+    copied _ _ s.args.file.now _ s.args.from s.args.n c.copy.ensures s.requires.0 s.requires.1
 
 pub copy_at_spec : {M : Type 1} → statement M
 copy_at_spec =
     tie.close
     (tie.spec
-    (search rules) (search rules) (search rules) (search rules) (search rules) (search rules) (search rules)
-    (search rules) (search rules) returns)
+    (search rules) (search rules) (search rules) (search rules) (search rules) (search rules) (search rules) (search rules) (search rules) returns)

@@ -8,19 +8,18 @@ use Rattle.confirm.proofs.entries.copy_words.Tie as tie
 
 returns : tie.Need-returns
 returns c =
-    let p2 = c.before.before in
-    let u2 = p2.before.before in
-    let p = u2.before.before.before in
-    let u = p.before.before in
-    let k = u.before in
-    let s = k.before.before in
+    let p2 = c in
+    let u2 = p2 in
+    let p = u2 in
+    let u = p in
+    let k = u in
+    let s = k in
     words_copied s.args.buf.now _ _ s.args.file.now s.args.at s.args.from _ _
-    (λ i. omega (arith, k.shared-slice-known.given i)) s.requires.0 s.requires.1
-    u.u64-at.ensures u2.u64-at2.ensures p.put.ensures p2.put2.ensures
+    (λ i. omega (arith, k.shared_slice_known-1.given i)) s.requires.0 s.requires.1
+    u.u64_at-low.ensures u2.u64_at-high.ensures p.put.ensures p2.put-2.ensures
 
 pub copy_words_spec : {M : Type 1} → statement M
 copy_words_spec =
     tie.close
     (tie.spec
-    (search rules) (search rules) (search rules) (search rules) (search rules) (search rules) (search rules)
-    returns)
+    (search rules) (search rules) (search rules) (search rules) (search rules) (search rules) (search rules) returns)

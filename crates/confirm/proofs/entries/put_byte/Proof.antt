@@ -9,4 +9,5 @@ returns : tie.Need-returns
 returns c = stored _ _ _ c.requires
 
 pub put_byte_spec : {M : Type 1} → statement M
-put_byte_spec = tie.close (tie.spec (search rules) (search rules) returns)
+put_byte_spec = tie.close (tie.spec
+    (search rules) (search rules) returns)

@@ -10,29 +10,28 @@ use borrow.Author.Rules.{rules}
 use Rattle.confirm.proofs.payload.payload_sum.Statement.{statement}
 use Rattle.confirm.proofs.payload.payload_sum.Tie as tie
 
-slice-aggregate-checksum : tie.Need-slice-aggregate-checksum
+slice-aggregate-checksum : tie.Need-slice_bounds-checksum-end
 slice-aggregate-checksum c =
-    let s = c.before.before.before.before.before in
+    let s = c in
     sym (length-take-le (length s.args.payload.now - 4096) s.args.payload.now (omega arith))
 
-extend-by-requires : tie.Need-extend-by-requires
+extend-by-requires : tie.Need-extend_by-requires
 extend-by-requires c κs =
-    let x = c.before.before.before in
-    let u = x.before.before in
-    let k = u.before in
-    let s = k.before in
-    root_known s.args.payload.now (λ i. omega (arith, k.shared-slice-known.given i)) s.requires _ _ u.u32-at.ensures x.extend.ensures
+    let x = c in
+    let u = x in
+    let k = u in
+    let s = k in
+    root_known s.args.payload.now (λ i. omega (arith, k.shared_slice_known-1.given i)) s.requires _ _ u.u32_at-stored.ensures x.extend-known.ensures
 
 returns : tie.Need-returns
 returns c =
-    let m = c.before.before in
-    let k = m.before.before.before.before.before in
-    let s = k.before in
-    payload_summed s.args.payload.now (λ i. omega (arith, k.shared-slice-known.given i)) s.requires _ _ m.checksum.ensures c.extend-by.ensures
+    let m = c in
+    let k = m in
+    let s = k in
+    payload_summed s.args.payload.now (λ i. omega (arith, k.shared_slice_known-1.given i)) s.requires _ _ m.checksum.ensures c.extend_by.ensures
 
 pub payload_sum_spec : {M : Type 1} → statement M
 payload_sum_spec =
     tie.close
     (tie.spec
-    (search rules) (search rules) (search rules) (search rules) (search rules) (search rules) (search rules)
-    slice-aggregate-checksum (search rules) (search rules) (search rules) (search rules) extend-by-requires returns)
+    (search rules) (search rules) (search rules) (search rules) (search rules) (search rules) (search rules) slice-aggregate-checksum (search rules) (search rules) (search rules) (search rules) extend-by-requires returns)

@@ -15,107 +15,83 @@ use borrow.Author.Rules.{rules}
 use Rattle.confirm.proofs.payload.put_root.Statement.{statement}
 use Rattle.confirm.proofs.payload.put_root.Tie as tie
 
-mul-long : tie.Need-overflow-mul-long
+mul-long : tie.Need-overflow_mul-long
 unfolding payload_length record_by round64
-mul-long c = omega (arith, c.before.requires.1)
+mul-long c = omega (arith, c.requires.1)
 
-add-long : tie.Need-overflow-add-long
+add-long : tie.Need-overflow_add-long
 unfolding payload_length record_by round64
-add-long c = omega (arith, c.before.requires.1)
+add-long c = omega (arith, c.requires.1)
 
-round-up-requires : tie.Need-round-up-requires
+round-up-requires : tie.Need-round_up-requires
 unfolding payload_length record_by round64
-round-up-requires c κs = omega (arith, c.before.requires.1)
+round-up-requires c κs = omega (arith, c.requires.1)
 
-add-round-up : tie.Need-overflow-add-round-up
+add-round-up : tie.Need-overflow_add-round_up
 unfolding payload_length record_by round64
-add-round-up c = omega (arith, c.before.before.requires.1, c.round_up.ensures)
+add-round-up c = omega (arith, c.requires.1, c.round_up.ensures)
 
-round-up-requires-2 : tie.Need-round-up-requires-2
+round-up-requires-2 : tie.Need-round_up-size-requires
 unfolding payload_length record_by round64
-round-up-requires-2 c κs = omega (arith, c.before.before.requires.1, c.round_up.ensures)
+round-up-requires-2 c κs = omega (arith, c.requires.1, c.round_up.ensures)
 
-add-end-2 : tie.Need-overflow-add-end-2
+add-end-2 : tie.Need-overflow_add-end-2
 unfolding payload_length record_by round64
-add-end-2 c = omega (arith, c.before.before.before.requires.1, c.before.round_up.ensures, c.round-up2.ensures)
+add-end-2 c = omega (arith, c.requires.1, c.round_up.ensures, c.round_up-size.ensures)
 
 -- Where the six fields are put: the steps to there, and the record's length, which none of them changes.
-module _ (p6 : tie.After-put6) where
-  abbrev p5 : tie.After-put5
-  p5 = p6.before.before.before.before
-
-  abbrev p4 : tie.After-put4
-  p4 = p5.before.before.before.before
-
-  abbrev p3 : tie.After-put3
-  p3 = p4.before.before.before.before
-
-  abbrev p2 : tie.After-put2
-  p2 = p3.before.before.before.before
-
-  abbrev p1 : tie.After-put
-  p1 = p2.before.before.before.before
-
-  abbrev cy : tie.After-copy
-  cy = p1.before.before.before.before
-
-  abbrev s : tie.Start
-  s = cy.before.before.before.before.before.before
-
-  kept : length p6.put6.last.0 ≡ length s.args.buf.now
+module _ (p6 : tie.After-put-6) where
+  kept : length p6.put-6.new.s ≡ length p6.args.buf.now
   kept =
-      p6.put6.kept.0 ∙ p5.put5.kept.0 ∙ p4.put4.kept.0 ∙ p3.put3.kept.0 ∙ p2.put2.kept.0
-      ∙ p1.put.kept.0 ∙ cy.copy.kept.0
+      p6.put-6.auto.s ∙ p6.put-5.auto.s ∙ p6.put-4.auto.s ∙ p6.put-3.auto.s ∙ p6.put-2.auto.s
+      ∙ p6.put.auto.s ∙ p6.copy.auto.buf
 
-room : (cp : tie.After-clear-part) → 4096 ≤ length cp.clear-part.new.0
+room : (cp : tie.After-clear_part) → 4096 ≤ length cp.clear_part.new.buf
 room cp =
-    let p6 = cp.before.before.before.before in
-    omega (arith, cp.clear-part.auto.0, kept p6, (s p6).requires.0)
+    let p6 = cp in
+    omega (arith, cp.clear_part.auto.buf, kept cp.before.before.before.before, p6.requires.0)
 
-clear-part-requires : tie.Need-clear-part-requires
+clear-part-requires : tie.Need-clear_part-requires
 clear-part-requires c κs =
-    let p6 = c.before.before.before in
-    (omega arith, omega (arith, (s p6).requires.0, kept p6))
+    let p6 = c in
+    (omega arith, omega (arith, p6.requires.0, kept c.before.before.before))
 
-slice-reshare-prefix-checksum : tie.Need-slice-reshare-prefix-checksum
+slice-reshare-prefix-checksum : tie.Need-slice_bounds-checksum-end
 slice-reshare-prefix-checksum c = omega (arith, room c.before.before)
 
-slice-aggregate-checksum : tie.Need-slice-aggregate-checksum
+slice-aggregate-checksum : tie.Need-slice_bounds-checksum-end-2
 slice-aggregate-checksum c =
-    let cp = c.before.before.before in
-    sym (length-take-le 40 cp.clear-part.new.0 (omega (arith, room cp)))
+    let cp = c in
+    sym (length-take-le 40 cp.clear_part.new.buf (omega (arith, room c.before.before)))
 
 put-requires-7 : tie.Need-put-requires-7
-put-requires-7 c κs = omega (arith, room c.before.before.before.before.before.before)
+put-requires-7 c κs = omega (arith, room c.before.before.before.before.before)
 
-same_length : tie.Need-same-length
+same_length : tie.Need-shape_of-buf
 same_length c =
-    let cs = c.before.before.before.before.before in
-    let cp = cs.before.before.before.before in
-    c.before.before.put7.auto.0 ∙ cp.clear-part.auto.0 ∙ kept cp.before.before.before.before
+    let cs = c in
+    let cp = cs in
+    c.put-7.auto.s ∙ cp.clear_part.auto.buf ∙ kept c.before.before.before.before.before.before.before.before.before.before.before.before
 
 returns : tie.Need-returns
 unfolding payload_length record_by
 returns c =
-    let cs = c.before.before.before.before.before in
-    let cp = cs.before.before.before.before in
-    let p6 = cp.before.before.before.before in
-    let ru2 = (cy p6).before.before.before in
-    let s = ru2.before.before.before in
+    let cs = c in
+    let cp = cs in
+    let p6 = cp in
+    let ru2 = p6.before in
+    let s = ru2 in
     let offset = s.args.offset in
-    root_laid s.args.c offset s.args.id s.args.buf.now _ _ cs.checksum.result _ s.pre.0
-    (fields_laid s.args.buf.now s.args.c offset s.args.id s.pre.0 _ _ _ _ _ _ _ _ _ _ (omega arith)
-    (ap (λ (n : ℕ). offset + 64 + n) (ru2.round-up2.ensures ∙ ap (λ (n : ℕ). round64 (n + 4096)) ru2.before.round_up.ensures))
-    (cy p6).copy.ensures (p1 p6).put.ensures (p2 p6).put2.ensures (p3 p6).put3.ensures (p4 p6).put4.ensures (p5 p6).put5.ensures
-    p6.put6.ensures cp.clear-part.ensures)
-    (omega arith) cs.checksum.ensures
-    (ap (λ (x : ℕ). bit_xor x 0xFFFF_FFFF) c.before.before.before.before.times.ensures) c.before.before.put7.ensures
+    root_laid s.args.c offset s.args.id s.args.buf.now _ _ cs.checksum-sum.result _ s.requires.0
+    (fields_laid s.args.buf.now s.args.c offset s.args.id s.requires.0 _ _ _ _ _ _ _ _ _ _ (omega arith)
+    (ap (λ (n : ℕ). offset + 64 + n) (ru2.round_up-size.ensures ∙ ap (λ (n : ℕ). round64 (n + 4096)) ru2.round_up.ensures))
+    p6.copy.ensures p6.put.ensures p6.put-2.ensures p6.put-3.ensures p6.put-4.ensures p6.put-5.ensures
+    p6.put-6.ensures cp.clear_part.ensures)
+    (omega arith) cs.checksum-sum.ensures
+    (ap (λ (x : ℕ). bit_xor x 0xFFFF_FFFF) c.times-crc.ensures) c.put-7.ensures
 
 pub put_root_spec : {M : Type 1} → statement M
 put_root_spec =
     tie.close
     (tie.spec
-    mul-long add-long round-up-requires add-round-up round-up-requires-2 (search rules) add-end-2 (search rules)
-    (search rules) (search rules) (search rules) (search rules) (search rules) (search rules) (search rules)
-    clear-part-requires slice-reshare-prefix-checksum slice-aggregate-checksum (search rules) (search rules)
-    (search rules) put-requires-7 same_length returns)
+    mul-long add-long round-up-requires add-round-up round-up-requires-2 (search rules) add-end-2 (search rules) (search rules) (search rules) (search rules) (search rules) (search rules) (search rules) clear-part-requires slice-reshare-prefix-checksum slice-aggregate-checksum (search rules) (search rules) (search rules) put-requires-7 same_length returns)

@@ -7,32 +7,31 @@ use borrow.Author.Rules.{rules}
 use Rattle.confirm.proofs.states.read_states.Statement.{statement}
 use Rattle.confirm.proofs.states.read_states.Tie as tie
 
-abbrev invariant-loop : tie.invariant-loop
-invariant-loop states₀ payload n i₀ states i = StatesRead states₀ states payload n i
+abbrev invariant-loop-i : tie.invariant-loop-i
+invariant-loop-i states₀ payload n i₀ states i = StatesRead states₀ states payload n i
 
-abbrev decreases-loop : tie.decreases-loop
-decreases-loop states₀ payload n i₀ states i = n - i
+abbrev decreases-loop-i : tie.decreases-loop-i
+decreases-loop-i states₀ payload n i₀ states i = n - i
 
-loop-holds : tie.Need-loop-init invariant-loop decreases-loop
+loop-holds : tie.Need-loop-i-init invariant-loop-i decreases-loop-i
 loop-holds c = read_first _ _ _
 
-slice-write-states : tie.Need-slice-write-states invariant-loop decreases-loop
-slice-write-states c = let same_length = c.before.before.loop.invariant.same_length in omega arith
+slice-write-states : tie.Need-bounds-states-i invariant-loop-i decreases-loop-i
+slice-write-states c = let same_length = c.loop-i.invariant.same_length in omega arith
 
-loop-again : tie.Need-loop-preserved invariant-loop decreases-loop
+loop-again : tie.Need-loop-i-preserved invariant-loop-i decreases-loop-i
 loop-again c =
-    let l = c.before.before in
-    read_next _ _ _ _ l.loop.i l.loop.invariant (omega arith) l.before.requires.0
+    let l = c in
+    read_next _ _ _ _ l.loop-i.i l.loop-i.invariant (omega arith) l.requires.0
 
-same_length : tie.Need-same-length invariant-loop decreases-loop
-same_length c = c.before.loop.invariant.same_length
+same_length : tie.Need-shape_of-states invariant-loop-i decreases-loop-i
+same_length c = c.loop-i.invariant.same_length
 
-returns : tie.Need-returns invariant-loop decreases-loop
-returns c = read_last _ _ _ _ c.before.loop.i c.before.loop.invariant (omega arith)
+returns : tie.Need-returns invariant-loop-i decreases-loop-i
+returns c = read_last _ _ _ _ c.loop-i.i c.loop-i.invariant (omega arith)
 
 pub read_states_spec : {M : Type 1} → statement M
 read_states_spec =
     tie.close
     (tie.spec
-    invariant-loop decreases-loop loop-holds (search rules) (search rules) (search rules) (search rules) slice-write-states
-    (search rules) (search rules) loop-again same_length returns)
+    invariant-loop-i decreases-loop-i loop-holds (search rules) (search rules) (search rules) (search rules) slice-write-states (search rules) (search rules) loop-again same_length returns)

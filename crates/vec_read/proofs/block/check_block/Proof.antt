@@ -39,7 +39,7 @@ returns-2 c =
     (omega arith) _ (sym d.decode-m.ensures.0 ∙ c.in-Refused.is)
 
 -- Where the map is read: it lies behind the columns, in the block.
-module _ (m : tie.In-Length-2) where
+module _ (m : tie.In-Length) where
   fits : m.args.count * m.args.dim * m.width_of.result + m.in-Length.n ≤ length m.args.s.now
   fits =
       check_fits m.args.s.now [] m.args.count m.args.dim m.args.dtype _
@@ -56,7 +56,7 @@ u32-at-requires : tie.Need-u32_at-requires
 u32-at-requires c κs = omega (arith, fits c.before)
 
 slice-aggregate-checksum : tie.Need-slice_bounds-checksum-end
-slice-aggregate-checksum c = sym (length-take-le _ _ (fits c.before))
+slice-aggregate-checksum c = sym (length-take-le _ _ (fits c.before.before))
 
 returns-4 : tie.Need-returns-then-u32_at-checksum
 returns-4 c =
@@ -92,4 +92,4 @@ pub check_block_spec : {M : Type 1} → statement M
 check_block_spec =
     tie.close
     (tie.spec
-    mul-columns (search rules) mul-columns-2 returns (search rules) (search rules) (search rules) (search rules) (search rules) (search rules) returns-2 (search rules) (λ c. omega (arith, fits c.before)) (λ c. omega (arith, fits c.before)) (search rules) returns-3 u32-at-requires slice-aggregate-checksum (search rules) (search rules) returns-4 (search rules) (search rules) (search rules) returns-5 (search rules) returns-6)
+    mul-columns (search rules) mul-columns-2 returns (search rules) (search rules) (search rules) (search rules) (search rules) (search rules) returns-2 (search rules) (λ c. omega (arith, fits c)) (λ c. omega (arith, fits c)) (search rules) returns-3 u32-at-requires slice-aggregate-checksum (search rules) (search rules) returns-4 (search rules) (search rules) (search rules) returns-5 (search rules) returns-6)

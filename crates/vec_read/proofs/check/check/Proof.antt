@@ -16,4 +16,5 @@ returns-3 : tie.Need-returns-in-At
 returns-3 c = sym (was_at _ _ _ _ _ _ _ _ _ _ (sym c.walk-w.ensures ∙ c.in-At.is)).0
 
 pub check_spec : {M : Type 1} → statement M
-check_spec = tie.close (tie.spec (search rules) (search rules) (search rules) (search rules) returns returns-2 returns-3)
+check_spec = tie.close (tie.spec
+    (search rules) (search rules) (search rules) (search rules) returns returns-2 returns-3)

@@ -44,5 +44,4 @@ pub check_directory_spec : {M : Type 1} → statement M
 check_directory_spec =
     tie.close
     (tie.spec
-    returns (search rules) (search rules) returns-2 (search rules) (search rules) returns-3 (search rules)
-    returns-4 (search rules) returns-5 returns-6)
+    returns (search rules) (search rules) returns-2 (search rules) (search rules) returns-3 (search rules) returns-4 (search rules) returns-5 returns-6)

@@ -50,5 +50,4 @@ pub check_line_spec : {M : Type 1} → statement M
 check_line_spec =
     tie.close
     (tie.spec
-    (search rules) (search rules) (search rules) returns returns-2 (search rules) (search rules) (search rules)
-    returns-3 returns-4 (search rules) (search rules) cast-width-of (search rules) returns-5 returns-6)
+    (search rules) (search rules) (search rules) returns returns-2 (search rules) (search rules) (search rules) returns-3 returns-4 (search rules) (search rules) cast-width-of (search rules) returns-5 returns-6)

@@ -30,5 +30,4 @@ pub check_lines_spec : {M : Type 1} → statement M
 check_lines_spec =
     tie.close
     (tie.spec
-    invariant-loop-i decreases-loop-i loop-holds (search rules) (search rules) (search rules) returns (search rules)
-    (search rules) loop-again returns-2)
+    invariant-loop-i decreases-loop-i loop-holds (search rules) (search rules) (search rules) returns (search rules) (search rules) loop-again returns-2)

@@ -35,5 +35,4 @@ pub largest_count_spec : {M : Type 1} → statement M
 largest_count_spec =
     tie.close
     (tie.spec
-    invariant-loop-i decreases-loop-i u32-at-requires (search rules) loop-holds (search rules) (search rules) (search rules) (search rules) (search rules) (search rules)
-    (search rules) (search rules) loop-again returns)
+    invariant-loop-i decreases-loop-i u32-at-requires (search rules) loop-holds (search rules) (search rules) (search rules) (search rules) (search rules) (search rules) (search rules) (search rules) loop-again returns)

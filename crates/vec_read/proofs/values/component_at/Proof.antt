@@ -22,8 +22,8 @@ returns c =
 returns-2 : tie.Need-returns-then-dtype-eq3
 returns-2 c =
     let s = c in
-    let e : to_z w8 (of_z w8 c.Signed-of.result) ≡ c.Signed-of.result = search rules in
-    ap Signed (e ∙ c.Signed-of.ensures) ∙ component_signed s.args.s.now s.args.at _ c.if-dtype-eq3.true
+    let e : to_z w8 (of_z w8 c.signed_of.result) ≡ c.signed_of.result = search rules in
+    ap Signed (e ∙ c.signed_of.ensures) ∙ component_signed s.args.s.now s.args.at _ c.if-dtype-eq3.true
 
 returns-3 : tie.Need-returns
 returns-3 c =

@@ -15,4 +15,5 @@ float-from-bits-result : tie.Need-float_from_bits-result
 float-from-bits-result c = no_nan _ c.if-bits-gt2139095040.false
 
 pub float_of_spec : {M : Type 1} → statement M
-float_of_spec = tie.close (tie.spec returns float-from-bits-result (search rules))
+float_of_spec = tie.close (tie.spec
+    returns float-from-bits-result (search rules))

@@ -46,7 +46,7 @@ loop-holds c = vector_first _ _ _ _ _ _ c.requires _
 add-from : tie.Need-overflow_add-from invariant-loop-d decreases-loop-d
 add-from c =
     let wo = c in
-    omega (arith, (room c).row, (bounds (wo)).most, (bounds (wo)).index_in)
+    omega (arith, (room c).row, (bounds c.before.before.before).most, (bounds c.before.before.before).index_in)
 
 mul-to : tie.Need-overflow_mul-to invariant-loop-d decreases-loop-d
 mul-to c = omega (arith, (room c).to, (room c).all)
@@ -60,10 +60,10 @@ part-copy-start c = let same_length = c.loop-d.invariant.same_length in omega (a
 sub-copy-2 : tie.Need-slice_bounds-copy-count-in-loop-d invariant-loop-d decreases-loop-d
 sub-copy-2 c = omega (arith, (room c.before).from)
 
-part-copy-start-2 : tie.Need-slice-bounds-copy-start-2 invariant-loop-d decreases-loop-d
+part-copy-start-2 : tie.Need-slice_bounds-copy-start-in-loop-d invariant-loop-d decreases-loop-d
 part-copy-start-2 c = omega (arith, (room c.before).from)
 
-part-copy-end-2 : tie.Need-slice-bounds-copy-end-2 invariant-loop-d decreases-loop-d
+part-copy-end-2 : tie.Need-slice_bounds-copy-end-in-loop-d invariant-loop-d decreases-loop-d
 part-copy-end-2 c = omega (arith, (room c.before).from)
 
 copy-requires : tie.Need-copy-requires invariant-loop-d decreases-loop-d

@@ -19,4 +19,5 @@ returns-2 : tie.Need-returns
 returns-2 c = back_is _ c.if-b-lt128.false (omega arith)
 
 pub signed_of_spec : {M : Type 1} → statement M
-signed_of_spec = tie.close (tie.spec (search rules) returns (search rules) sub-result cast-result-3 returns-2)
+signed_of_spec = tie.close (tie.spec
+    (search rules) returns (search rules) sub-result cast-result-3 returns-2)

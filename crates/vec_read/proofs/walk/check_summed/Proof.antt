@@ -16,4 +16,5 @@ returns-3 : tie.Need-returns-in-At
 returns-3 c = absurd (never_at _ _ _ _ _ _ _ _ _ (sym c.walk-w.ensures ∙ c.in-At.is))
 
 pub check_summed_spec : {M : Type 1} → statement M
-check_summed_spec = tie.close (tie.spec (search rules) (search rules) (search rules) (search rules) returns returns-2 returns-3)
+check_summed_spec = tie.close (tie.spec
+    (search rules) (search rules) (search rules) (search rules) returns returns-2 returns-3)

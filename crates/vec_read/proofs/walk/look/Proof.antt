@@ -13,4 +13,5 @@ returns-2 : tie.Need-returns
 returns-2 c = asked_so _ _ _ (c.if-not-looking.false) c.index_of.ensures
 
 pub look_spec : {M : Type 1} → statement M
-look_spec = tie.close (tie.spec returns (search rules) returns-2)
+look_spec = tie.close (tie.spec
+    returns (search rules) returns-2)

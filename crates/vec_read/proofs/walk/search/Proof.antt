@@ -20,4 +20,5 @@ returns-2 : tie.Need-returns
 returns-2 c = c.walk_blocks.ensures ∙ searched_walk _ _
 
 pub search_spec : {M : Type 1} → statement M
-search_spec = tie.close (tie.spec (search rules) returns walk-blocks-requires (search rules) returns-2)
+search_spec = tie.close (tie.spec
+    (search rules) returns walk-blocks-requires (search rules) returns-2)

@@ -16,4 +16,5 @@ returns-2 c =
     sum_last _ _ _ _ _ e.requires (e.if-not-summed.false) refl _ c.extend.ensures
 
 pub sum_all_spec : {M : Type 1} → statement M
-sum_all_spec = tie.close (tie.spec returns (search rules) (search rules) (search rules) (search rules) returns-2)
+sum_all_spec = tie.close (tie.spec
+    returns (search rules) (search rules) (search rules) (search rules) returns-2)

@@ -26,5 +26,4 @@ pub walk_spec : {M : Type 1} → statement M
 walk_spec =
     tie.close
     (tie.spec
-    (search rules) returns largest-count-requires walk-few-requires (λ c. c.walk_few.ensures)
-    walk-many-requires (λ c. c.walk_many.ensures))
+    (search rules) returns largest-count-requires walk-few-requires (λ c. c.walk_few.ensures) walk-many-requires (λ c. c.walk_many.ensures))

@@ -2,7 +2,6 @@
 -- Assumes nothing.
 use Prim.Native.Nat.{ℕ, ◌+◌, ◌-◌, ◌*◌, ◌^◌, ◌≤◌, ◌<◌}
 use mathlib.Core.Path.{◌≡◌, refl, sym, ap, ◌∙◌}
-use mathlib.Core.Logic.{⊎_elim}
 use native.Mathlib.Omega.{arith}
 use lib.ListN.{length}
 use Rattle.octets.specs.Round.{round64}
@@ -13,6 +12,7 @@ use Rattle.vec_read.specs.walk.Walk.{looked_past, looked_here}
 use Rattle.vec_read.specs.walk.Turn.{WalkAt, walk_first, turn_room, turn_offset, turn_bounds, turn_bad, turn_inside, turn_holds, turn_next, walk_more, walk_sum, walk_missing, walk_found}
 use borrow.Author.Rules.{rules}
 use Rattle.vec_read.proofs.walk.walk_blocks.Statement.{statement}
+use Rattle.vec_read.proofs.walk.walk_blocks.Lts.{in-Place, in_default}
 use Rattle.vec_read.proofs.walk.walk_blocks.Tie as tie
 
 abbrev invariant-loop-i : tie.invariant-loop-i
@@ -22,40 +22,37 @@ invariant-loop-i s id summed looking scratch₀ blocks sum₀ kept₀ i₀ at₀
 abbrev decreases-loop-i : tie.decreases-loop-i
 decreases-loop-i s id summed looking scratch₀ blocks sum₀ kept₀ i₀ at₀ scratch sum kept i at = blocks - i
 
-abbrev call : tie.At-loop-i invariant-loop-i decreases-loop-i → tie.Start invariant-loop-i decreases-loop-i
-call l = l.before
-
 -- a payload's length is far below what a number holds
 small : (x : tie.After-shared_slice_known-1 invariant-loop-i decreases-loop-i) → length x.args.s.now + 64 ≤ 2 ^ 64
 small x = omega arith
 
 -- a block is left, and its line is there
-more : (b : tie.In-loop-i invariant-loop-i decreases-loop-i) → b.loop-i.i < block_count (call b.before).args.s.now
+more : (b : tie.In-loop-i invariant-loop-i decreases-loop-i) → b.loop-i.i < block_count b.args.s.now
 more b = omega (arith, b.loop-i.invariant.1.0, b.loop-i-test.true)
 
-lines : (b : tie.In-loop-i invariant-loop-i decreases-loop-i) → 4 + 12 * b.loop-i.i + 12 ≤ length (call b.before).args.s.now
+lines : (b : tie.In-loop-i invariant-loop-i decreases-loop-i) → 4 + 12 * b.loop-i.i + 12 ≤ length b.args.s.now
 lines b =
     let l = b in
-    turn_room _ (call l).requires.0 _ _ _ _ _ _ _ _ l.loop-i.invariant.0 (more b)
+    turn_room _ l.requires.0 _ _ _ _ _ _ _ _ l.loop-i.invariant.0 (more b)
 
 -- it begins in the payload
 at_in : (k : tie.After-shared_slice_known-in-loop-i-1 invariant-loop-i decreases-loop-i)
-    → k.loop-i.at ≤ length (call k.before).args.s.now
+    → k.loop-i.at ≤ length k.args.s.now
 at_in k = k.loop-i.invariant.0.blocks.inside
 
 -- where a block is checked: what its line says, and where the walk stands
 module _ (cb : tie.After-check_block-b invariant-loop-i decreases-loop-i) where
-  fits : cb.u32_at-count.result ≤ length (call l).args.scratch.now
-  fits = count_fits _ _ _ (call l).requires.1 _ (more cb.before.before.before.before.before.before.before.before) _ cb.u32_at-count.ensures
+  fits : cb.u32_at-count.result ≤ length cb.args.scratch.now
+  fits = count_fits _ _ _ cb.requires.1 _ (more cb.before.before.before.before.before.before.before.before) _ cb.u32_at-count.ensures
 
 -- where a block is sound: it lies in the payload
 inside : (k : tie.In-Sound invariant-loop-i decreases-loop-i)
-    → ((l k.before).loop-i.at + round64 (k.in-Sound.n + 4) ≤ length (call (l k.before)).args.s.now)
+    → (k.loop-i.at + round64 (k.in-Sound.n + 4) ≤ length k.args.s.now)
     × ((k.in-Sound.n + 4 ≤ round64 (k.in-Sound.n + 4))
-    × (length (call (l k.before)).args.s.now + 64 ≤ 2 ^ 64))
+    × (length k.args.s.now + 64 ≤ 2 ^ 64))
 inside k =
     let cb = k in (
-      turn_inside _ (call cb).requires.0 _ _ _ _ _ _ _ _ cb.loop-i.invariant.0 (more k.before.before.before.before.before.before.before.before.before.before.before) (sym cb.u32_at.ensures ∙ cb.if-u32_at-at.false) _ _ _
+      turn_inside _ cb.requires.0 _ _ _ _ _ _ _ _ cb.loop-i.invariant.0 (more k.before.before.before.before.before.before.before.before.before.before.before) (sym cb.u32_at.ensures ∙ cb.if-u32_at-at.false) _ _ _
           cb.u32_at-count.ensures cb.u16_at-dim.ensures refl _ _ cb.check_block-b.ensures k.in-Sound.n k.in-Sound.is,
       (round64_ge (k.in-Sound.n + 4), small k.before.before.before.before.before.before.before.before.before.before.before.before.before.before.before.before),
     )
@@ -74,36 +71,36 @@ loop-holds c = (
 returns : tie.Need-returns-then-u32_at-at invariant-loop-i decreases-loop-i
 returns c =
     let l = c in
-    turn_offset _ (call l).requires.0 _ _ _ _ _ _ _ _ l.loop-i.invariant.0 (omega arith) (λ e. c.if-u32_at-at.true (c.u32_at.ensures ∙ e))
+    turn_offset _ l.requires.0 _ _ _ _ _ _ _ _ l.loop-i.invariant.0 (omega arith) (λ e. c.if-u32_at-at.true (c.u32_at.ensures ∙ e))
 
 check-block-requires : tie.Need-check_block-b-requires invariant-loop-i decreases-loop-i
 check-block-requires c κs =
     let u = c in
     let e = u in
     let l = e in
-    let b = turn_bounds _ (call l).requires.0 _ _ _ _ _ _ _ _ l.loop-i.invariant.0 (omega arith) (sym e.u32_at.ensures ∙ e.if-u32_at-at.false) _ _ _
+    let b = turn_bounds _ l.requires.0 _ _ _ _ _ _ _ _ l.loop-i.invariant.0 (omega arith) (sym e.u32_at.ensures ∙ e.if-u32_at-at.false) _ _ _
     u.u32_at-count.ensures u.u16_at-dim.ensures refl in
-    let fits = count_fits _ _ _ (call l).requires.1 _ (more c.before.before.before.before.before.before.before) _ u.u32_at-count.ensures in
+    let fits = count_fits _ _ _ l.requires.1 _ (more c.before.before.before.before.before.before.before) _ u.u32_at-count.ensures in
     (b.0, (b.1, (omega (arith, fits, l.loop-i.invariant.1.1), b.2)))
 
 returns-2 : tie.Need-returns-in-Refused invariant-loop-i decreases-loop-i
 returns-2 c =
     let cb = c in
-    turn_bad _ (call cb).requires.0 _ _ _ _ _ _ _ _ cb.loop-i.invariant.0 (more c.before.before.before.before.before.before.before.before.before.before.before) (sym cb.u32_at.ensures ∙ cb.if-u32_at-at.false) _ _ _
+    turn_bad _ cb.requires.0 _ _ _ _ _ _ _ _ cb.loop-i.invariant.0 (more c.before.before.before.before.before.before.before.before.before.before.before) (sym cb.u32_at.ensures ∙ cb.if-u32_at-at.false) _ _ _
     cb.u32_at-count.ensures cb.u16_at-dim.ensures refl _ _ cb.check_block-b.ensures _ c.in-Refused.is
 
 sum-on-requires : tie.Need-sum_on-sum-requires invariant-loop-i decreases-loop-i
 sum-on-requires c κs =
     let cb = c in (
       cb.loop-i.invariant.0.sum,
-      turn_holds _ (call cb).requires.0 _ _ _ _ _ _ _ _ cb.loop-i.invariant.0 (more c.before.before.before.before.before.before.before.before.before.before.before) (sym cb.u32_at.ensures ∙ cb.if-u32_at-at.false) _ _ _
+      turn_holds _ cb.requires.0 _ _ _ _ _ _ _ _ cb.loop-i.invariant.0 (more c.before.before.before.before.before.before.before.before.before.before.before) (sym cb.u32_at.ensures ∙ cb.if-u32_at-at.false) _ _ _
           cb.u32_at-count.ensures cb.u16_at-dim.ensures refl _ _ cb.check_block-b.ensures _ c.in-Sound.is,
     )
 
 look-requires : tie.Need-look-place-requires invariant-loop-i decreases-loop-i
 look-requires c κs =
     let cb = c in
-    omega (arith, fits c.before.before.before.before, cb.check_block-b.auto.1.1.1.1, cb.loop-i.invariant.1.1)
+    omega (arith, fits c.before.before.before.before, cb.check_block-b.auto.scratch, cb.loop-i.invariant.1.1)
 
 loop-again : tie.Need-loop-i-preserved invariant-loop-i decreases-loop-i
 loop-again c =
@@ -111,35 +108,37 @@ loop-again c =
     let so = lk in
     let k = so in
     let cb = k in (
-      turn_next _ (call cb).requires.0 _ _ _ _ _ _ _ _ cb.loop-i.invariant.0 (more c.before.before.before.before.before.before.before.before.before.before.before.before.before.before.before) (sym cb.u32_at.ensures ∙ cb.if-u32_at-at.false) _ _ _
+      turn_next _ cb.requires.0 _ _ _ _ _ _ _ _ cb.loop-i.invariant.0 (more c.before.before.before.before.before.before.before.before.before.before.before.before.before.before.before) (sym cb.u32_at.ensures ∙ cb.if-u32_at-at.false) _ _ _
           cb.u32_at-count.ensures cb.u16_at-dim.ensures refl _ _ cb.check_block-b.ensures _ k.in-Sound.is _ _ _ _
           c.round_up-at-in-Sound.ensures so.sum_on-sum.ensures
-          (⊎_elim (λ w. w.3 ∙ looked_here _ _ _ _ _ _ _ (sym lk.look-place.ensures ∙ w.1.given.1))
-          (λ w. w.2 ∙ looked_past _ _ _ _ _ _ (sym lk.look-place.ensures ∙ w.1.given.1)) c.in-Place.branch),
-      (cb.loop-i.invariant.1.0, cb.check_block-b.auto.1.1.1.1.0 ∙ cb.loop-i.invariant.1.1),
+          (elim c.match-place.branch [
+            in-Place w ↦ w.kept-is ∙ looked_here _ _ _ _ _ _ _ (sym lk.look-place.ensures ∙ w.in-Place.is)
+          | in_default w ↦ w.kept-is ∙ looked_past _ _ _ _ _ _ (sym lk.look-place.ensures ∙ w.in_default.is)
+          ]),
+      (cb.loop-i.invariant.1.0, cb.check_block-b.auto.scratch ∙ cb.loop-i.invariant.1.1),
     )
 
 returns-3 : tie.Need-returns-then-s-at invariant-loop-i decreases-loop-i
 returns-3 c =
     let l = c in
-    walk_more _ (call l).requires.0 _ _ _ _ _ _ _ _ l.loop-i.invariant.0 (omega arith) c.if-s-at.true
+    walk_more _ l.requires.0 _ _ _ _ _ _ _ _ l.loop-i.invariant.0 (omega arith) c.if-s-at.true
 
 sum-all-requires : tie.Need-sum_all-all-requires invariant-loop-i decreases-loop-i
 sum-all-requires c κs =
     let l = c in
-    walk_sum _ (call l).requires.0 _ _ _ _ _ _ _ _ l.loop-i.invariant.0 (omega arith) c.if-s-at.false
+    walk_sum _ l.requires.0 _ _ _ _ _ _ _ _ l.loop-i.invariant.0 (omega arith) c.if-s-at.false
 
 returns-4 : tie.Need-returns-in-Nowhere invariant-loop-i decreases-loop-i
 returns-4 c =
     let sa = c in
     let l = sa in
-    walk_missing _ (call l).requires.0 _ _ _ _ _ _ _ _ l.loop-i.invariant.0 (omega arith) sa.if-s-at.false _ sa.sum_all-all.ensures c.in-Nowhere.is
+    walk_missing _ l.requires.0 _ _ _ _ _ _ _ _ l.loop-i.invariant.0 (omega arith) sa.if-s-at.false _ sa.sum_all-all.ensures c.in-Nowhere.is
 
 returns-5 : tie.Need-returns-in-At invariant-loop-i decreases-loop-i
 returns-5 c =
     let sa = c in
     let l = sa in
-    walk_found _ (call l).requires.0 _ _ _ _ _ _ _ _ l.loop-i.invariant.0 (omega arith) sa.if-s-at.false _ sa.sum_all-all.ensures _ _ _ _ _ c.in-At.is
+    walk_found _ l.requires.0 _ _ _ _ _ _ _ _ l.loop-i.invariant.0 (omega arith) sa.if-s-at.false _ sa.sum_all-all.ensures _ _ _ _ _ c.in-At.is
 
 pub walk_blocks_spec : {M : Type 1} → statement M
 walk_blocks_spec =

@@ -12,4 +12,5 @@ returns : tie.Need-returns
 returns c = c.walk_blocks.ensures
 
 pub walk_many_spec : {M : Type 1} → statement M
-walk_many_spec = tie.close (tie.spec (search rules) walk-blocks-requires returns)
+walk_many_spec = tie.close (tie.spec
+    (search rules) walk-blocks-requires returns)

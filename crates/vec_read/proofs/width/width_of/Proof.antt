@@ -17,4 +17,5 @@ returns-4 : tie.Need-returns
 returns-4 c = width_none _ c.if-dtype-eq0.false c.if-dtype-eq3.false c.if-dtype-eq4.false
 
 pub width_of_spec : {M : Type 1} → statement M
-width_of_spec = tie.close (tie.spec returns returns-2 returns-3 returns-4)
+width_of_spec = tie.close (tie.spec
+    returns returns-2 returns-3 returns-4)
