@@ -8,18 +8,17 @@ use Rattle.opening.proofs.directory.read_entry.Tie as tie
 returns : tie.Need-returns
 unfolding entry_read_at
 returns c =
-    let ua4 = c.before.before.before in
+    let ua4 = c in
     rw (
-      ua4.before.before.before.u64-at.ensures,
-      ua4.before.before.u64-at2.ensures,
-      ua4.before.u64-at3.ensures,
-      ua4.u64-at4.ensures,
-      c.u16-at.ensures,
+      ua4.u64_at.ensures,
+      ua4.u64_at-2.ensures,
+      ua4.u64_at-3.ensures,
+      ua4.u64_at-4.ensures,
+      c.u16_at.ensures,
     )
 
 pub read_entry_spec : {M : Type 1} → statement M
 read_entry_spec =
     tie.close
     (tie.spec
-    (search rules) (search rules) (search rules) (search rules) (search rules) (search rules) (search rules)
-    (search rules) (search rules) (search rules) (search rules) (search rules) (search rules) returns)
+    (search rules) (search rules) (search rules) (search rules) (search rules) (search rules) (search rules) (search rules) (search rules) (search rules) (search rules) (search rules) (search rules) returns)

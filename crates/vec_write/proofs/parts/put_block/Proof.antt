@@ -14,76 +14,62 @@ use Rattle.vec_write.proofs.parts.put_block.Tie as tie
 
 -- The steps to where the columns are copied, and that there is room for the checksum behind the map.
 module _ (o : tie.After-copy) where
-  abbrev ru : tie.After-round-up
-  ru = o.before.before
-
-  abbrev s : tie.Start
-  s = ru.before.before.before.before
-
-  room : s.args.end + 4 ≤ length o.copy.last.0
-  room = omega (arith, round64_ge (s.args.end + 4), s.pre.1.1, o.copy.kept.0)
+  room : o.args.end + 4 ≤ length o.copy.new.buf
+  room = omega (arith, round64_ge (o.args.end + 4), o.requires.1.1, o.copy.auto.buf)
 
 -- The steps to where the map is put, and to where its checksum is.
-abbrev copied : tie.After-put → tie.After-copy
-copied m = m.before.before.before.before
+add-summed : tie.Need-overflow_add-summed
+add-summed c = omega (arith, round64_ge (c.args.end + 4))
 
-abbrev mapped : tie.After-checksum → tie.After-put
-mapped k = k.before.before.before.before
-
-add-summed : tie.Need-overflow-add-summed
-add-summed c = omega (arith, round64_ge (c.before.before.before.args.end + 4))
-
-round-up-requires : tie.Need-round-up-requires
+round-up-requires : tie.Need-round_up-filled-requires
 unfolding round64
 round-up-requires c κs = omega arith
 
 copy-requires : tie.Need-copy-requires
-copy-requires c κs = omega (arith, round64_ge (c.before.before.before.before.before.args.end + 4))
+copy-requires c κs = omega (arith, round64_ge (c.args.end + 4))
 
-sub-put : tie.Need-overflow-sub-put
+sub-put : tie.Need-slice_bounds-put-count
 sub-put c = omega (arith, room c.before.before)
 
-part-put-start : tie.Need-slice-bounds-put-start
+part-put-start : tie.Need-slice_bounds-put-start
 part-put-start c = omega (arith, room c.before.before)
 
 put-requires : tie.Need-put-requires
 put-requires c κs =
-    let o = c.before.before.before in
-    ((s o).requires.0, omega (arith, room o))
+    let o = c in
+    (o.requires.0, omega (arith, room c.before.before.before))
 
-slice-reshare-prefix-checksum : tie.Need-slice-reshare-prefix-checksum
-slice-reshare-prefix-checksum c = omega (arith, room (copied c.before.before))
+slice-reshare-prefix-checksum : tie.Need-slice_bounds-checksum-end
+slice-reshare-prefix-checksum c = omega (arith, room c.before.before.before.before.before.before)
 
-slice-aggregate-checksum : tie.Need-slice-aggregate-checksum
-slice-aggregate-checksum c = sym (length-take-le _ _ (omega (arith, room (copied c.before.before.before))))
+slice-aggregate-checksum : tie.Need-slice_bounds-checksum-end-2
+slice-aggregate-checksum c = sym (length-take-le _ _ (omega (arith, room c.before.before.before.before.before.before)))
 
 put-requires-2 : tie.Need-put-requires-2
-put-requires-2 c κs = omega (arith, room (copied (mapped c.before)))
+put-requires-2 c κs = omega (arith, room c.before.before.before.before.before.before.before.before)
 
-clear-part-requires : tie.Need-clear-part-requires
+clear-part-requires : tie.Need-clear_part-requires
 clear-part-requires c κs =
-    let w = c.before.before.before in
-    let o = copied (mapped w.before.before) in
-    let g = round64_ge ((s o).args.end + 4) in
-    (omega (arith, (ru o).round_up.ensures), omega (arith, (ru o).round_up.ensures, (s o).pre.1.1, o.copy.kept.0, w.put2.auto.0))
+    let w = c in
+    let o = w in
+    let g = round64_ge (o.args.end + 4) in
+    (omega (arith, o.round_up-filled.ensures), omega (arith, o.round_up-filled.ensures, o.requires.1.1, o.copy.auto.buf, w.put-2.auto.s))
 
 returns : tie.Need-returns
 returns c =
-    let z = c.before.before in
-    let w = z.before.before.before.before in
-    let k = w.before.before in
-    let m = mapped k in
-    let o = copied m in
-    let s = s o in
-    block_laid s.args.buf.now _ _ _ _ _ s.pre.1.0 s.pre.1.1
-    (map_laid s.args.buf.now o.copy.last.0 m.put.last.0 _ _ _ s.pre.1.0 s.pre.1.1
-    o.copy.ensures m.put.ensures) k.checksum.ensures _ _
-    w.put2.ensures (padded _ _ _ _ (ru o).round_up.ensures z.clear-part.ensures)
+    let z = c in
+    let w = z in
+    let k = w in
+    let m = k in
+    let o = m in
+    let s = o in
+    block_laid s.args.buf.now _ _ _ _ _ s.requires.1.0 s.requires.1.1
+    (map_laid s.args.buf.now o.copy.new.buf m.put.new.buf _ _ _ s.requires.1.0 s.requires.1.1
+    o.copy.ensures m.put.ensures) k.checksum-crc.ensures _ _
+    w.put-2.ensures (padded _ _ _ _ o.round_up-filled.ensures z.clear_part.ensures)
 
 pub put_block_spec : {M : Type 1} → statement M
 put_block_spec =
     tie.close
     (tie.spec
-    add-summed round-up-requires copy-requires sub-put part-put-start (λ c. search rules) put-requires
-    slice-reshare-prefix-checksum slice-aggregate-checksum (λ c κs. search rules) (λ c. search rules)
-    put-requires-2 clear-part-requires (λ c. search rules) returns)
+    add-summed round-up-requires copy-requires sub-put part-put-start (λ c. search rules) put-requires slice-reshare-prefix-checksum slice-aggregate-checksum (λ c κs. search rules) (λ c. search rules) put-requires-2 clear-part-requires (λ c. search rules) returns)
