@@ -4,7 +4,7 @@
 use vecseg::Component;
 
 // Where a payload begins in the file and how long it is; or the number of a refusal.
-#[derive(Drop)]
+#[derive(Clone, Copy)]
 pub enum PayloadPlace {
     At { start: usize, length: usize },
     Refused(u32),

@@ -8,19 +8,20 @@ use borrow.Author.Rules.{rules}
 use Rattle.append.proofs.batch_number.Statement.{statement}
 use Rattle.append.proofs.batch_number.Tie as tie
 
-returns : tie.Need-returns
-returns c = (number_form _ (sym c.before.check.ensures ∙ not-true _ c.if1.true), λ z. absurd (omega (arith, z)))
+returns : tie.Need-returns-then-not-check
+returns c = (number_form _ (sym c.check.ensures ∙ c.if-not-check.true), λ z. absurd (omega (arith, z)))
 
-vectors-bad-requires : tie.Need-vectors-bad-requires
+vectors-bad-requires : tie.Need-vectors_bad-requires
 vectors-bad-requires c κs =
-    let e = c.before in
-    (sym e.before.check.ensures ∙ not-false _ e.if1.false, omega arith)
+    let e = c in
+    (sym e.check.ensures ∙ e.if-not-check.false, omega arith)
 
-returns-2 : tie.Need-returns-2
+returns-2 : tie.Need-returns
 returns-2 c =
-    let v = c.before.before in
-    let e = v.before.before in
-    (number_vectors _ _ (sym e.before.check.ensures ∙ not-false _ e.if1.false) v.vectors-bad.ensures.0, v.vectors-bad.ensures.1)
+    let v = c in
+    let e = v in
+    (number_vectors _ _ (sym e.check.ensures ∙ e.if-not-check.false) v.vectors_bad.ensures.0, v.vectors_bad.ensures.1)
 
 pub batch_number_spec : {M : Type 1} → statement M
-batch_number_spec = tie.close (tie.spec (search rules) returns vectors-bad-requires (search rules) returns-2)
+batch_number_spec = tie.close (tie.spec
+    (search rules) returns vectors-bad-requires (search rules) returns-2)

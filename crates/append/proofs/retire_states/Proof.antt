@@ -12,160 +12,147 @@ use Rattle.append.proofs.retire_states.Statement.{statement}
 use Rattle.append.proofs.retire_states.Tie as tie
 
 -- Where the file's bytes are known: the manifest's header lies in the file, and its entries are few.
-room : (k : tie.After-shared-slice-known) → (k.before.args.manifest + 64 ≤ length k.before.args.file.now) × (k.before.args.count ≤ 1024)
+room : (k : tie.After-shared_slice_known-1) → (k.args.manifest + 64 ≤ length k.args.file.now) × (k.args.count ≤ 1024)
 room k =
-    let s = k.before in
+    let s = k in
     manifest_room s.args.file.now s.args.offsets.now s.args.manifest s.args.count
-    (λ j. omega (arith, k.shared-slice-known.given j)) s.requires.1.0 s.requires.0.0 s.requires.1.1
+    (λ j. omega (arith, k.shared_slice_known-1.given j)) s.requires.1.0 s.requires.0.0 s.requires.1.1
 
 -- Where the payload's length is read: the payload is the file's part behind the header.
-module _ (u : tie.After-u64-at) where
-  abbrev k : tie.After-shared-slice-known
-  k = u.before.before.before.before
-
-  abbrev s : tie.Start
-  s = k.before
-
+module _ (u : tie.After-u64_at) where
   abbrev begin : ℕ
-  begin = s.args.manifest + 64
+  begin = u.args.manifest + 64
 
-  part : (begin + u.u64-at.result ≤ length s.args.file.now) × (8 + 48 * s.args.count ≤ u.u64-at.result)
+  part : (begin + u.u64_at.result ≤ length u.args.file.now) × (8 + 48 * u.args.count ≤ u.u64_at.result)
   part =
       let mp =
-      manifest_part s.args.file.now s.args.offsets.now s.args.manifest s.args.count
-      (λ j. omega (arith, k.shared-slice-known.given j)) s.pre.1.0 s.pre.0.0 s.pre.1.1 in
-      (omega (arith, mp.0, u.u64-at.ensures), omega (arith, mp.1.1, u.u64-at.ensures))
+      manifest_part u.args.file.now u.args.offsets.now u.args.manifest u.args.count
+      (λ j. omega (arith, u.shared_slice_known-1.given j)) u.requires.1.0 u.requires.0.0 u.requires.1.1 in
+      (omega (arith, mp.0, u.u64_at.ensures), omega (arith, mp.1.1, u.u64_at.ensures))
 
-  part-is : take (begin + u.u64-at.result - begin) (drop begin s.args.file.now) ≡ s.pre.1.1.found.link.payload
+  part-is : take (begin + u.u64_at.result - begin) (drop begin u.args.file.now) ≡ u.requires.1.1.found.link.payload
   part-is =
-      let e : begin + u.u64-at.result - begin ≡ u.u64-at.result = omega arith in
-      ap (λ (n : ℕ). take n (drop begin s.args.file.now)) (e ∙ u.u64-at.ensures)
-      ∙ (manifest_part s.args.file.now s.args.offsets.now s.args.manifest s.args.count
-      (λ j. omega (arith, k.shared-slice-known.given j)) s.pre.1.0 s.pre.0.0 s.pre.1.1).1.0
+      let e : begin + u.u64_at.result - begin ≡ u.u64_at.result = omega arith in
+      ap (λ (n : ℕ). take n (drop begin u.args.file.now)) (e ∙ u.u64_at.ensures)
+      ∙ (manifest_part u.args.file.now u.args.offsets.now u.args.manifest u.args.count
+      (λ j. omega (arith, u.shared_slice_known-1.given j)) u.requires.1.0 u.requires.0.0 u.requires.1.1).1.0
 
 -- Where the states are read.
-module _ (r : tie.After-read-states) where
-  abbrev v : tie.After-u64-at
-  v = r.before.before.before
+module _ (r : tie.After-read_states) where
+  states-long : r.args.count ≤ length r.read_states.new.states
+  states-long = omega (arith, (room r.before.before.before.before.before.before.before).1, r.read_states.auto.states, ap length r.requires.0.1, length-replicate {A = ℕ} 1024 0)
 
-  states-long : (s v).args.count ≤ length r.read-states.last.0
-  states-long = omega (arith, (room (k v)).1, r.read-states.kept.0, ap length (s v).pre.0.1, length-replicate {A = ℕ} 1024 0)
-
-add_body : tie.Need-overflow-add-body
+add_body : tie.Need-overflow_add-body
 add_body c = omega (arith, room c.before.before.before)
 
-add-u64-at : tie.Need-overflow-add-u64-at
+add-u64-at : tie.Need-overflow_add-manifest
 add-u64-at c = omega (arith, room c.before.before.before)
 
-u64-at-requires : tie.Need-u64-at-requires
+u64-at-requires : tie.Need-u64_at-requires
 u64-at-requires c κs = omega (arith, room c.before.before.before)
 
-read-states-requires : tie.Need-read-states-requires
+read-states-requires : tie.Need-read_states-requires
 read-states-requires c κs =
-    let u = c.before.before in
-    let e : begin u + u.u64-at.result - begin u ≡ u.u64-at.result = omega arith in
+    let u = c in
+    let e : begin c.before.before + u.u64_at.result - begin c.before.before ≡ u.u64_at.result = omega arith in
     let n =
-    length-take-le (begin u + u.u64-at.result - begin u) (drop (begin u) (s u).args.file.now)
-    (omega (arith, part u, length-drop (begin u) (s u).args.file.now)) in
-    (omega (arith, (room (k u)).1, ap length (s u).requires.0.1, length-replicate {A = ℕ} 1024 0), omega (arith, n, e, part u))
+    length-take-le (begin c.before.before + u.u64_at.result - begin c.before.before) (drop (begin c.before.before) u.args.file.now)
+    (omega (arith, part c.before.before, length-drop (begin c.before.before) u.args.file.now)) in
+    (omega (arith, (room c.before.before.before.before.before.before).1, ap length u.requires.0.1, length-replicate {A = ℕ} 1024 0), omega (arith, n, e, part c.before.before))
 
-slice-aggregate-read-entries : tie.Need-slice-aggregate-read-entries
+slice-aggregate-read-entries : tie.Need-slice_bounds-read_entries-end
 slice-aggregate-read-entries c =
-    let k = c.before.before.before.before.before.before.before.before.before.before in
-    let s = k.before in
-    sym (length-take-le s.args.count s.args.offsets.now (omega (arith, (room k).1, s.requires.0.0)))
+    let k = c in
+    let s = k in
+    sym (length-take-le s.args.count s.args.offsets.now (omega (arith, (room c.before.before.before.before.before.before.before.before.before).1, s.requires.0.0)))
 
-read-entries-requires : tie.Need-read-entries-requires
+read-entries-requires : tie.Need-read_entries-requires
 read-entries-requires c κs =
-    let k = c.before.before.before.before.before.before.before.before.before.before.before.before in
-    let s = k.before in
+    let k = c in
+    let s = k in
     let file = s.args.file.now in
     let offsets = s.args.offsets.now in
-    let os-count = length-take-le s.args.count offsets (omega (arith, (room k).1, s.requires.0.0)) in (
-      (omega (arith, os-count, (room k).1), omega (arith, os-count, (room k).1)),
+    let os-count = length-take-le s.args.count offsets (omega (arith, (room c.before.before.before.before.before.before.before.before.before.before.before).1, s.requires.0.0)) in (
+      (omega (arith, os-count, (room c.before.before.before.before.before.before.before.before.before.before.before).1), omega (arith, os-count, (room c.before.before.before.before.before.before.before.before.before.before.before).1)),
       entries_inside file s.args.manifest s.args.count s.requires.1.1 (take s.args.count offsets)
           (before_offsets file offsets s.args.manifest s.args.count
-          (λ j. omega (arith, k.shared-slice-known.given j)) s.requires.1.0 s.requires.0.0 s.requires.1.1),
+          (λ j. omega (arith, k.shared_slice_known-1.given j)) s.requires.1.0 s.requires.0.0 s.requires.1.1),
     )
 
-array-share-prefix-entry-ids : tie.Need-array-share-prefix-entry-ids
+array-share-prefix-entry-ids : tie.Need-slice_bounds-entry_ids-end
 array-share-prefix-entry-ids c =
-    let k = c.before.before.before.before.before.before.before.before.before.before.before.before.before.before.before in
-    omega (arith, (room k).1)
+    let k = c in
+    omega (arith, (room c.before.before.before.before.before.before.before.before.before.before.before.before.before.before).1)
 
-slice-aggregate-mark : tie.Need-slice-aggregate-mark
+slice-aggregate-mark : tie.Need-slice_bounds-mark-end
 slice-aggregate-mark c =
-    let re = c.before.before.before in
-    let k = re.before.before.before.before.before.before.before.before.before.before.before.before.before in
-    let count = k.before.args.count in
-    let h : count ≤ length re.read-entries.new.1.1.0 = omega (arith, (room k).1, re.read-entries.auto.1.1.0) in
-    sym (length-take-le count re.read-entries.new.1.1.0 h)
+    let re = c in
+    let k = re in
+    let count = k.args.count in
+    let h : count ≤ length re.read_entries.new.entry_ids = omega (arith, (room c.before.before.before.before.before.before.before.before.before.before.before.before.before.before.before).1, re.read_entries.auto.entry_ids) in
+    sym (length-take-le count re.read_entries.new.entry_ids h)
 
-array-share-prefix-kinds : tie.Need-array-share-prefix-kinds
+array-share-prefix-kinds : tie.Need-slice_bounds-kinds-end
 array-share-prefix-kinds c =
-    let k = c.before.before.before.before.before.before.before.before.before.before.before.before.before.before.before.before in
-    omega (arith, (room k).1)
+    let k = c in
+    omega (arith, (room c.before.before.before.before.before.before.before.before.before.before.before.before.before.before.before).1)
 
-slice-aggregate-mark-2 : tie.Need-slice-aggregate-mark-2
+slice-aggregate-mark-2 : tie.Need-slice_bounds-mark-end-2
 slice-aggregate-mark-2 c =
-    let re = c.before.before.before.before in
-    let k = re.before.before.before.before.before.before.before.before.before.before.before.before.before in
-    let count = k.before.args.count in
-    let h : count ≤ length re.read-entries.new.1.1.1.0 = omega (arith, (room k).1, re.read-entries.auto.1.1.1.0) in
-    sym (length-take-le count re.read-entries.new.1.1.1.0 h)
+    let re = c in
+    let k = re in
+    let count = k.args.count in
+    let h : count ≤ length re.read_entries.new.kinds = omega (arith, (room c.before.before.before.before.before.before.before.before.before.before.before.before.before.before.before.before).1, re.read_entries.auto.kinds) in
+    sym (length-take-le count re.read_entries.new.kinds h)
 
-slice-relend-prefix-mark : tie.Need-slice-relend-prefix-mark
-slice-relend-prefix-mark c = states-long c.before.before.before.before.before.before.before.before.before.before
+slice-relend-prefix-mark : tie.Need-slice_bounds-mark-end-3
+slice-relend-prefix-mark c = states-long c.before.before.before.before.before.before.before.before.before
 
-slice-aggregate-mark-3 : tie.Need-slice-aggregate-mark-3
+slice-aggregate-mark-3 : tie.Need-slice_bounds-mark-end-4
 slice-aggregate-mark-3 c =
-    let rs = c.before.before.before.before.before.before.before.before.before.before.before in
-    sym (length-take-le (s (v rs)).args.count rs.read-states.new.0 (states-long rs))
+    let rs = c in
+    sym (length-take-le rs.args.count rs.read_states.new.states (states-long c.before.before.before.before.before.before.before.before.before.before))
 
 mark-requires : tie.Need-mark-requires
 mark-requires c κs =
-    let re = c.before.before.before.before.before in
-    let rs = re.before.before.before.before.before.before in
-    let k = k (v rs) in
-    let s = k.before in
+    let re = c in
+    let rs = re in
+    let k = rs in
+    let s = k in
     let count = s.args.count in
     let file = s.args.file.now in
     let manifest = s.args.manifest in
     let offsets = s.args.offsets.now in
-    let bo = before_offsets file offsets manifest count (λ j. omega (arith, k.shared-slice-known.given j))
-    s.pre.1.0 s.pre.0.0 s.pre.1.1 in
-    lists_even file manifest count s.pre.1.1 (take count offsets) bo
-    _ re.read-entries.new.1.1.0 _ re.read-entries.new.1.1.1.0 _ rs.read-states.new.0 _
-    re.read-entries.ensures.0 re.read-entries.ensures.1 rs.read-states.ensures (part-is (v rs))
+    let bo = before_offsets file offsets manifest count (λ j. omega (arith, k.shared_slice_known-1.given j))
+    s.requires.1.0 s.requires.0.0 s.requires.1.1 in
+    lists_even file manifest count s.requires.1.1 (take count offsets) bo
+    _ re.read_entries.new.entry_ids _ re.read_entries.new.kinds _ rs.read_states.new.states _
+    re.read_entries.ensures.0 re.read_entries.ensures.1 rs.read_states.ensures (part-is c.before.before.before.before.before.before.before.before.before.before.before.before.before)
 
 returns : tie.Need-returns
 returns c =
-    let m = c.before.before in
-    let re = m.before.before.before.before.before.before in
-    let rs = re.before.before.before.before.before.before in
-    let k = k (v rs) in
-    let s = k.before in
+    let m = c in
+    let re = m in
+    let rs = re in
+    let k = rs in
+    let s = k in
     let count = s.args.count in
     let file = s.args.file.now in
     let manifest = s.args.manifest in
     let offsets = s.args.offsets.now in
-    let bo = before_offsets file offsets manifest count (λ j. omega (arith, k.shared-slice-known.given j))
-    s.pre.1.0 s.pre.0.0 s.pre.1.1 in (
-      m.mark.ensures.0 ∙ marks_held file manifest count s.pre.1.1 (take count offsets) bo
-          _ re.read-entries.new.1.1.0 _ re.read-entries.new.1.1.1.0 _ rs.read-states.new.0 _
-          re.read-entries.ensures.0 re.read-entries.ensures.1 rs.read-states.ensures (part-is (v rs)) s.args.ids.now,
-      λ r. marks_laid file manifest count s.pre.1.1 (take count offsets) bo
-          _ re.read-entries.new.1.1.0 _ re.read-entries.new.1.1.1.0 _ rs.read-states.new.0 _
-          re.read-entries.ensures.0 re.read-entries.ensures.1 rs.read-states.ensures (part-is (v rs)) s.args.ids.now
-          _ s.pre.0.1 (room k).1 (m.mark.ensures.1 r),
+    let bo = before_offsets file offsets manifest count (λ j. omega (arith, k.shared_slice_known-1.given j))
+    s.requires.1.0 s.requires.0.0 s.requires.1.1 in (
+      m.mark.ensures.0 ∙ marks_held file manifest count s.requires.1.1 (take count offsets) bo
+          _ re.read_entries.new.entry_ids _ re.read_entries.new.kinds _ rs.read_states.new.states _
+          re.read_entries.ensures.0 re.read_entries.ensures.1 rs.read_states.ensures (part-is c.before.before.before.before.before.before.before.before.before.before.before.before.before.before.before.before) s.args.ids.now,
+      λ r. marks_laid file manifest count s.requires.1.1 (take count offsets) bo
+          _ re.read_entries.new.entry_ids _ re.read_entries.new.kinds _ rs.read_states.new.states _
+          re.read_entries.ensures.0 re.read_entries.ensures.1 rs.read_states.ensures (part-is c.before.before.before.before.before.before.before.before.before.before.before.before.before.before.before.before) s.args.ids.now
+          _ s.requires.0.1 (room c.before.before.before.before.before.before.before.before.before.before.before.before.before.before.before.before.before.before.before.before).1 (m.mark.ensures.1 r),
     )
 
 pub retire_states_spec : {M : Type 1} → statement M
 retire_states_spec =
     tie.close
     (tie.spec
-    add_body add-u64-at u64-at-requires (λ c. omega (arith, part c)) (search rules) (search rules)
-    (λ c. omega (arith, part c.before)) read-states-requires slice-aggregate-read-entries (search rules)
-    (search rules) read-entries-requires array-share-prefix-entry-ids slice-aggregate-mark
-    array-share-prefix-kinds slice-aggregate-mark-2 slice-relend-prefix-mark slice-aggregate-mark-3
-    mark-requires (search rules) returns)
+    add_body add-u64-at u64-at-requires (λ c. omega (arith, part c)) (search rules) (search rules) (λ c. omega (arith, part c.before)) read-states-requires slice-aggregate-read-entries (search rules) (search rules) read-entries-requires array-share-prefix-entry-ids slice-aggregate-mark array-share-prefix-kinds slice-aggregate-mark-2 slice-relend-prefix-mark slice-aggregate-mark-3 mark-requires (search rules) returns)

@@ -9,36 +9,35 @@ use Rattle.listing.specs.text.Whole.{front_within, front_length, text_short, tex
 use Rattle.listing.proofs.list.Statement.{statement}
 use Rattle.listing.proofs.list.Tie as tie
 
-slice-aggregate-put-text : tie.Need-slice-aggregate-put-text
+slice-aggregate-put-text : tie.Need-slice_bounds-put_text-end
 slice-aggregate-put-text c = sym (length-replicate {A = ℕ} 102400 0)
 
-put-text-requires : tie.Need-put-text-requires
+put-text-requires : tie.Need-put_text-n-requires
 put-text-requires c κs = subst (λ n. 102400 ≤ n) (sym (length-replicate {A = ℕ} 102400 0)) (le_refl 102400)
 
-returns : tie.Need-returns
-returns c = text_short c.before.before.put-text.ensures _ (omega arith)
+returns : tie.Need-returns-then-n-buffer
+returns c = text_short c.put_text-n.ensures _ (omega arith)
 
-array-share-prefix-text : tie.Need-array-share-prefix-text
-array-share-prefix-text c = front_within c.before.before.before.put-text.ensures
+array-share-prefix-text : tie.Need-slice_bounds-text-end
+array-share-prefix-text c = front_within c.put_text-n.ensures
 
-slice-aggregate-copy : tie.Need-slice-aggregate-copy
-slice-aggregate-copy c = front_length c.before.before.before.before.put-text.ensures
+slice-aggregate-copy : tie.Need-slice_bounds-copy-end
+slice-aggregate-copy c = front_length c.put_text-n.ensures
 
 copy-requires : tie.Need-copy-requires
 copy-requires c κs =
-    let e = front_length c.before.before.before.before.put-text.ensures in
+    let e = front_length c.put_text-n.ensures in
     omega arith
 
-same_length : tie.Need-same-length
-same_length c = c.before.before.copy.auto.0
+same_length : tie.Need-shape_of-buffer
+same_length c = c.copy.auto.buf
 
-returns-2 : tie.Need-returns-2
-returns-2 c = text_copied c.before.before.before.before.before.before.before.put-text.ensures _ _
-    (omega arith) c.before.before.copy.ensures
+returns-2 : tie.Need-returns
+returns-2 c = text_copied c.put_text-n.ensures _ _
+    (omega arith) c.copy.ensures
 
 pub list_spec : {M : Type 1} → statement M
 list_spec =
     tie.close
     (tie.spec
-    slice-aggregate-put-text put-text-requires returns array-share-prefix-text slice-aggregate-copy
-    copy-requires same_length returns-2)
+    slice-aggregate-put-text put-text-requires returns array-share-prefix-text slice-aggregate-copy copy-requires same_length returns-2)

@@ -23,210 +23,184 @@ use Rattle.append.proofs.commit.commit.Statement.{statement}
 use Rattle.append.proofs.commit.commit.Tie as tie
 
 -- Where the batch's count `m` is read: the numbers of the new manifest. `s` is the call.
-module _ (u : tie.After-u32-at) where
-  abbrev s : tie.Start
-  s = u.before.before.before.before.before.before
-
+module _ (u : tie.After-u32_at-m) where
   abbrev m : ℕ
-  m = u.u32-at.result
+  m = u.u32_at-m.result
 
   abbrev next : ℕ
-  next = next_id_of s.args.first s.args.last
+  next = next_id_of u.args.first u.args.last
 
-  count-new : s.args.kept + m ≡ new_count (opened (take s.args.start s.args.buf.now)) (bodies_of s.args.batch.now)
+  count-new : u.args.kept + m ≡ new_count (opened (take u.args.start u.args.buf.now)) (bodies_of u.args.batch.now)
   count-new =
-      count_number _ _ _ _ m next s.pre.1.0.start_is s.pre.1.0.count_is
-      (bodies_count s.args.batch.now ∙ sym (count_is s.args.batch.now m u.u32-at.ensures)) s.pre.1.0.next_is
+      count_number _ _ _ _ m next u.requires.1.0.start_is u.requires.1.0.count_is
+      (bodies_count u.args.batch.now ∙ sym (count_is u.args.batch.now m u.u32_at-m.ensures)) u.requires.1.0.next_is
 
-  id-new : next + m ≡ manifest_id (opened (take s.args.start s.args.buf.now)) (bodies_of s.args.batch.now)
+  id-new : next + m ≡ manifest_id (opened (take u.args.start u.args.buf.now)) (bodies_of u.args.batch.now)
   id-new =
-      id_number _ _ _ _ m next s.pre.1.0.start_is s.pre.1.0.count_is
-      (bodies_count s.args.batch.now ∙ sym (count_is s.args.batch.now m u.u32-at.ensures)) s.pre.1.0.next_is
+      id_number _ _ _ _ m next u.requires.1.0.start_is u.requires.1.0.count_is
+      (bodies_count u.args.batch.now ∙ sym (count_is u.args.batch.now m u.u32_at-m.ensures)) u.requires.1.0.next_is
 
 -- Where the ids suffice.
-module _ (e : tie.Else2) where
-  abbrev u : tie.After-u32-at
-  u = e.before.before.before
+module _ (e : tie.Else-ids_over) where
+  id-enough : ltb (2 ^ 64 - 1) (manifest_id (opened (take e.args.start e.args.buf.now)) (bodies_of e.args.batch.now)) ≡ false
+  id-enough = ap (ltb (2 ^ 64 - 1)) (sym (id-new e.before.before.before)) ∙ sym e.ids_over.ensures ∙ e.if-ids_over.false
 
-  id-enough : ltb (2 ^ 64 - 1) (manifest_id (opened (take (s u).args.start (s u).args.buf.now)) (bodies_of (s u).args.batch.now)) ≡ false
-  id-enough = ap (ltb (2 ^ 64 - 1)) (sym (id-new u)) ∙ sym e.before.ids-over.ensures ∙ e.if2.left
-
-  id_fits : next u + m u ≤ 2 ^ 64 - 1
-  id_fits = ltb-false (2 ^ 64 - 1) (next u + m u) (sym e.before.ids-over.ensures ∙ e.if2.left)
+  id_fits : next e.before.before.before + m e.before.before.before ≤ 2 ^ 64 - 1
+  id_fits = ltb-false (2 ^ 64 - 1) (next e.before.before.before + m e.before.before.before) (sym e.ids_over.ensures ∙ e.if-ids_over.false)
 
 -- Where the bodies' end is known.
-bodies-small : (b : tie.After-bodies-end) → b.bodies-end.result ≤ 17827840
+bodies-small : (b : tie.After-bodies_end-at) → b.bodies_end-at.result ≤ 17827840
 bodies-small b =
-    let s = s (u b.before.before) in
-    omega (arith, b.bodies-end.ensures, bodies_most s.args.batch.now s.args.start s.pre.0.0 s.pre.1.0.small)
+    let s = b in
+    omega (arith, b.bodies_end-at.ensures, bodies_most s.args.batch.now s.args.start s.requires.0.0 s.requires.1.0.small)
 
 -- Where the file's new end is known.
-module _ (r : tie.After-round-up2) where
-  abbrev b : tie.After-bodies-end
-  b = r.before.before
-
-  abbrev v : tie.After-u32-at
-  v = u b.before.before
-
-  end-new : b.bodies-end.result + 64 + r.round-up2.result
-      ≡ new_end (opened (take (s v).args.start (s v).args.buf.now)) (bodies_of (s v).args.batch.now)
+module _ (r : tie.After-round_up-2) where
+  end-new : r.bodies_end-at.result + 64 + r.round_up-2.result
+      ≡ new_end (opened (take r.args.start r.args.buf.now)) (bodies_of r.args.batch.now)
   end-new =
-      end_number _ _ _ _ (m v) (next v) (s v).pre.1.0.start_is (s v).pre.1.0.count_is
-      (bodies_count (s v).args.batch.now ∙ sym (count_is (s v).args.batch.now (m v) v.u32-at.ensures)) (s v).pre.1.0.next_is
-      _ _ _ b.bodies-end.ensures r.before.round_up.ensures r.round-up2.ensures
+      end_number _ _ _ _ (m r.before.before.before.before.before.before.before) (next r.before.before.before.before.before.before.before) r.requires.1.0.start_is r.requires.1.0.count_is
+      (bodies_count r.args.batch.now ∙ sym (count_is r.args.batch.now (m r.before.before.before.before.before.before.before) r.u32_at-m.ensures)) r.requires.1.0.next_is
+      _ _ _ r.bodies_end-at.ensures r.round_up.ensures r.round_up-2.ensures
 
 -- Where the bodies are laid: the lists that the manifest is made of.
-module _ (p : tie.After-put-bodies) where
-  abbrev r : tie.After-round-up2
-  r = p.before.before.before.before.before
-
-  abbrev n : tie.After-next-id
-  n = (b r).before
-
-  abbrev w : tie.After-u32-at
-  w = v r
-
+module _ (p : tie.After-put_bodies) where
   abbrev all : ℕ
-  all = (s w).args.kept + m w
+  all = p.args.kept + m p.before.before.before.before.before.before.before.before.before.before.before.before
 
   at_most : all ≤ 1024
-  at_most = omega (arith, n.before.before.before.if1.left)
+  at_most = omega (arith, p.if-count-gt-MAX_ENTRIES.false)
 
-  offsets-long : all ≤ length p.put-bodies.last.1.1.1.1.1.0
-  offsets-long = omega (arith, at_most, p.put-bodies.kept.1.1.1.1.1.0, (s w).pre.0.1.0)
+  offsets-long : all ≤ length p.put_bodies.new.offsets
+  offsets-long = omega (arith, at_most, p.put_bodies.auto.offsets, p.requires.0.1.0)
 
-  offsets-count : length (take all p.put-bodies.last.1.1.1.1.1.0) ≡ all
-  offsets-count = length-take-le all p.put-bodies.last.1.1.1.1.1.0 offsets-long
+  offsets-count : length (take all p.put_bodies.new.offsets) ≡ all
+  offsets-count = length-take-le all p.put_bodies.new.offsets offsets-long
 
-  states-count : length (take all (s w).args.states.now) ≡ all
-  states-count = length-take-le all (s w).args.states.now (omega (arith, at_most, (s w).pre.0.1.1))
+  states-count : length (take all p.args.states.now) ≡ all
+  states-count = length-take-le all p.args.states.now (omega (arith, at_most, p.requires.0.1.1))
 
-  ids-fit : n.next-id.result + m w < 2 ^ 64
-  ids-fit = omega (arith, n.next-id.ensures, id_fits n.before)
+  ids-fit : p.next_id-next.result + m p.before.before.before.before.before.before.before.before.before.before.before.before < 2 ^ 64
+  ids-fit = omega (arith, p.next_id-next.ensures, id_fits p.before.before.before.before.before.before.before.before.before)
 
-u32-at-requires : tie.Need-u32-at-requires
+u32-at-requires : tie.Need-u32_at-m-requires
 u32-at-requires c κs =
-    let s = c.before.before.before.before.before in
+    let s = c in
     let q = held_bounds s.args.batch.now s.requires.0.0 in
     omega arith
 
-add-count : tie.Need-overflow-add-count
+add-count : tie.Need-overflow_add-count
 add-count c =
-    let q = held_bounds (s c).args.batch.now (s c).requires.0.0 in
-    let m-is = count_is (s c).args.batch.now (m c) c.u32-at.ensures in
-    omega (arith, (s c).requires.1.0.at_most)
+    let q = held_bounds c.args.batch.now c.requires.0.0 in
+    let m-is = count_is c.args.batch.now (m c) c.u32_at-m.ensures in
+    omega (arith, c.requires.1.0.at_most)
 
-returns : tie.Need-returns
+returns : tie.Need-returns-then-count-gt-MAX_ENTRIES
 returns c = commit_entries _ _ _ _ _ (omega (arith, count-new c.before))
 
-ids-over-requires : tie.Need-ids-over-requires
+ids-over-requires : tie.Need-ids_over-requires
 ids-over-requires c κs =
-    let u = c.before in
-    let q = held_bounds (s u).args.batch.now (s u).requires.0.0 in
-    let m-is = count_is (s u).args.batch.now (m u) u.u32-at.ensures in
+    let u = c in
+    let q = held_bounds u.args.batch.now u.requires.0.0 in
+    let m-is = count_is u.args.batch.now (m c.before) u.u32_at-m.ensures in
     omega arith
 
-returns-2 : tie.Need-returns-2
+returns-2 : tie.Need-returns-then-ids_over
 returns-2 c =
-    let u = c.before.before.before in
-    commit_ids _ _ _ _ _ (omega (arith, count-new u)) (ap (ltb (2 ^ 64 - 1)) (sym (id-new u)) ∙ sym c.before.ids-over.ensures ∙ c.if2.true)
+    let u = c in
+    commit_ids _ _ _ _ _ (omega (arith, count-new c.before.before.before)) (ap (ltb (2 ^ 64 - 1)) (sym (id-new c.before.before.before)) ∙ sym c.ids_over.ensures ∙ c.if-ids_over.true)
 
-bodies-end-requires : tie.Need-bodies-end-requires
+bodies-end-requires : tie.Need-bodies_end-at-requires
 bodies-end-requires c κs =
-    let s = s (u c.before) in
-    (s.pre.0.0, s.pre.1.0.small)
+    let s = c in
+    (s.requires.0.0, s.requires.1.0.small)
 
-add-round-up-2 : tie.Need-overflow-add-round-up-2
+add-round-up-2 : tie.Need-overflow_add-round_up
 add-round-up-2 c =
-    let u = u c.before.before.before in
-    omega (arith, c.round_up.ensures, round64_lt (8 + 48 * ((s u).args.kept + m u)))
+    let u = c in
+    omega (arith, c.round_up.ensures, round64_lt (8 + 48 * (u.args.kept + m c.before.before.before.before.before.before)))
 
-round-up-requires-2 : tie.Need-round-up-requires-2
+round-up-requires-2 : tie.Need-round_up-requires-2
 round-up-requires-2 c κs =
-    let u = u c.before.before.before in
-    omega (arith, c.round_up.ensures, round64_lt (8 + 48 * ((s u).args.kept + m u)))
+    let u = c in
+    omega (arith, c.round_up.ensures, round64_lt (8 + 48 * (u.args.kept + m c.before.before.before.before.before.before)))
 
-add-end-2 : tie.Need-overflow-add-end-2
+add-end-2 : tie.Need-overflow_add-end-2
 add-end-2 c =
-    let u = u c.before.before.before.before in
-    let l = round64_lt (8 + 48 * ((s u).args.kept + m u)) in
-    let k = round64_lt (c.before.round_up.result + 4096) in
-    omega (arith, bodies-small c.before.before, c.before.round_up.ensures, c.round-up2.ensures)
+    let u = c in
+    let l = round64_lt (8 + 48 * (u.args.kept + m c.before.before.before.before.before.before.before)) in
+    let k = round64_lt (c.round_up.result + 4096) in
+    omega (arith, bodies-small c.before.before, c.round_up.ensures, c.round_up-2.ensures)
 
-returns-3 : tie.Need-returns-3
+returns-3 : tie.Need-returns-then-end-gt-MAX_FILE
 returns-3 c =
-    let e2 = c.before.before.before.before.before in
-    commit_limit _ _ _ _ _ (omega (arith, count-new (u e2))) (id-enough e2) (omega (arith, end-new c.before))
+    let e2 = c in
+    commit_limit _ _ _ _ _ (omega (arith, count-new c.before.before.before.before.before.before.before.before)) (id-enough c.before.before.before.before.before) (omega (arith, end-new c.before))
 
-returns-4 : tie.Need-returns-4
+returns-4 : tie.Need-returns-then-end-buf
 returns-4 c =
-    let r = c.before.before in
-    let e2 = r.before.before.before.before in
-    commit_room _ _ _ _ _ (omega (arith, count-new (u e2))) (id-enough e2) (omega (arith, end-new r)) (omega (arith, end-new r))
+    let r = c in
+    let e2 = r in
+    commit_room _ _ _ _ _ (omega (arith, count-new c.before.before.before.before.before.before.before.before.before)) (id-enough c.before.before.before.before.before.before) (omega (arith, end-new c.before.before)) (omega (arith, end-new c.before.before))
 
-add-id : tie.Need-overflow-add-id
+add-id : tie.Need-overflow_add-id
 add-id c =
-    let n = c.before.before.before.before.before in
-    omega (arith, n.next-id.ensures, id_fits n.before)
+    let n = c in
+    omega (arith, n.next_id-next.ensures, id_fits c.before.before.before.before.before.before)
 
-put-bodies-requires : tie.Need-put-bodies-requires
+put-bodies-requires : tie.Need-put_bodies-requires
 put-bodies-requires c κs =
-    let b = c.before.before.before.before.before.before in
-    let n = b.before in
-    let u = u n.before in
-    let m-is = count_is (s u).args.batch.now (m u) u.u32-at.ensures in (
-      ((s u).pre.0.0, omega (arith, b.bodies-end.ensures)),
-      ((omega (arith, n.next-id.ensures, id_fits n.before, m-is), omega (arith, m-is, (s u).pre.0.1.0)), (s u).pre.1.1),
+    let b = c in
+    let n = b in
+    let u = n in
+    let m-is = count_is u.args.batch.now (m c.before.before.before.before.before.before.before.before.before.before.before) u.u32_at-m.ensures in (
+      (u.requires.0.0, omega (arith, b.bodies_end-at.ensures)),
+      ((omega (arith, n.next_id-next.ensures, id_fits c.before.before.before.before.before.before.before.before, m-is), omega (arith, m-is, u.requires.0.1.0)), u.requires.1.1),
     )
 
-slice-aggregate-put-manifest : tie.Need-slice-aggregate-put-manifest
-slice-aggregate-put-manifest c = sym (offsets-count c.before.before.before.before.before.before)
+slice-aggregate-put-manifest : tie.Need-slice_bounds-put_manifest-end-2
+slice-aggregate-put-manifest c = sym (offsets-count c.before.before.before.before.before)
 
-slice-aggregate-put-manifest-2 : tie.Need-slice-aggregate-put-manifest-2
-slice-aggregate-put-manifest-2 c = sym (states-count c.before.before.before.before.before.before.before)
+slice-aggregate-put-manifest-2 : tie.Need-slice_bounds-put_manifest-end-3
+slice-aggregate-put-manifest-2 c = sym (states-count c.before.before.before.before.before)
 
-put-manifest-requires : tie.Need-put-manifest-requires
+put-manifest-requires : tie.Need-put_manifest-requires
 put-manifest-requires c κs =
-    let p = c.before.before.before.before.before.before.before in
-    let s = s (w p) in
-    let os-count = offsets-count p in
-    let pr = payload_round (all p) _ _ (r p).before.round_up.ensures (r p).round-up2.ensures in
-    let pl : round64 (payload_length (length (take (all p) p.put-bodies.new.1.1.1.1.1.0))) ≡ round64 (payload_length (all p)) =
+    let p = c in
+    let s = p in
+    let os-count = offsets-count c.before.before.before.before.before in
+    let pr = payload_round (all c.before.before.before.before.before) _ _ p.round_up.ensures p.round_up-2.ensures in
+    let pl : round64 (payload_length (length (take (all c.before.before.before.before.before) p.put_bodies.new.offsets))) ≡ round64 (payload_length (all c.before.before.before.before.before)) =
     ap (λ (n : ℕ). round64 (payload_length n)) os-count in (
-      (omega (arith, os-count, at_most p), omega (arith, os-count, states-count p)),
+      (omega (arith, os-count, at_most c.before.before.before.before.before), omega (arith, os-count, states-count c.before.before.before.before.before)),
       (
-        (omega (arith, pl, pr, p.put-bodies.auto.0), omega arith),
+        (omega (arith, pl, pr, p.put_bodies.auto.buf), omega arith),
         written_inside s.args.buf.now s.args.offsets.now s.args.batch.now s.args.start
             s.args.kept s.args.first s.args.last
-            s.pre.1.0 s.pre.0.0 s.args.timestamp s.fits.timestamp.fits (n p).next-id.result (m (w p)) (n p).next-id.ensures
-            (count_is s.args.batch.now (m (w p)) (w p).u32-at.ensures) (ids-fit p) (b (r p)).bodies-end.result (b (r p)).bodies-end.ensures
-            (omega arith) (omega arith) (omega (arith, at_most p, s.pre.0.1.0))
-            p.put-bodies.new.0 p.put-bodies.new.1.1.1.1.1.0 p.put-bodies.ensures.0 p.put-bodies.ensures.1,
+            s.requires.1.0 s.requires.0.0 s.args.timestamp s.fits.timestamp.fits p.next_id-next.result (m c.before.before.before.before.before.before.before.before.before.before.before.before.before.before.before.before.before) p.next_id-next.ensures
+            (count_is s.args.batch.now (m c.before.before.before.before.before.before.before.before.before.before.before.before.before.before.before.before.before) p.u32_at-m.ensures) (ids-fit c.before.before.before.before.before) p.bodies_end-at.result p.bodies_end-at.ensures
+            (omega arith) (omega arith) (omega (arith, at_most c.before.before.before.before.before, s.requires.0.1.0))
+            p.put_bodies.new.buf p.put_bodies.new.offsets p.put_bodies.ensures.0 p.put_bodies.ensures.1,
       ),
     )
 
-returns-5 : tie.Need-returns-5
+returns-5 : tie.Need-returns
 returns-5 c =
-    let sk3 = c.before.before.before.before.before.before.before.before in
-    let p = sk3.before.before in
-    let s = s (w p) in
-    let e = end-new (r p) in
-    commit_done _ _ _ _ _ (omega (arith, at_most p, count-new (w p))) (id-enough (n p).before) (omega (arith, e)) (omega (arith, e)) _ _ _ _ e
-    (ap (λ (k : ℕ). k + m (w p)) (n p).next-id.ensures ∙ id-new (w p)) (count-new (w p))
+    let sk3 = c in
+    let p = sk3 in
+    let s = p in
+    let e = end-new c.before.before.before.before.before.before.before.before.before.before.before.before.before in
+    commit_done _ _ _ _ _ (omega (arith, at_most c.before.before.before.before.before.before.before.before, count-new c.before.before.before.before.before.before.before.before.before.before.before.before.before.before.before.before.before.before.before.before)) (id-enough c.before.before.before.before.before.before.before.before.before.before.before.before.before.before.before.before.before) (omega (arith, e)) (omega (arith, e)) _ _ _ _ e
+    (ap (λ (k : ℕ). k + m c.before.before.before.before.before.before.before.before.before.before.before.before.before.before.before.before.before.before.before.before) p.next_id-next.ensures ∙ id-new c.before.before.before.before.before.before.before.before.before.before.before.before.before.before.before.before.before.before.before.before) (count-new c.before.before.before.before.before.before.before.before.before.before.before.before.before.before.before.before.before.before.before.before)
     (written_all s.args.buf.now s.args.offsets.now s.args.batch.now s.args.start s.args.kept s.args.first s.args.last
-    s.pre.1.0 s.pre.0.0 s.args.timestamp s.fits.timestamp.fits (n p).next-id.result (m (w p)) (n p).next-id.ensures
-    (count_is s.args.batch.now (m (w p)) (w p).u32-at.ensures) (ids-fit p) (b (r p)).bodies-end.result (b (r p)).bodies-end.ensures
-    (omega arith) (omega arith) (omega (arith, at_most p, s.pre.0.1.0))
-    p.put-bodies.new.0 p.put-bodies.new.1.1.1.1.1.0 p.put-bodies.ensures.0 p.put-bodies.ensures.1
-    _ _ _ refl (λ k. omega (arith, sk3.slice-known3.given k)) c.before.before.put-manifest.ensures)
+    s.requires.1.0 s.requires.0.0 s.args.timestamp s.fits.timestamp.fits p.next_id-next.result (m c.before.before.before.before.before.before.before.before.before.before.before.before.before.before.before.before.before.before.before.before) p.next_id-next.ensures
+    (count_is s.args.batch.now (m c.before.before.before.before.before.before.before.before.before.before.before.before.before.before.before.before.before.before.before.before) p.u32_at-m.ensures) (ids-fit c.before.before.before.before.before.before.before.before) p.bodies_end-at.result p.bodies_end-at.ensures
+    (omega arith) (omega arith) (omega (arith, at_most c.before.before.before.before.before.before.before.before, s.requires.0.1.0))
+    p.put_bodies.new.buf p.put_bodies.new.offsets p.put_bodies.ensures.0 p.put_bodies.ensures.1
+    _ _ _ refl (λ k. omega (arith, sk3.slice_known-3-1.given k)) c.put_manifest.ensures)
 
 pub commit_spec : {M : Type 1} → statement M
 commit_spec =
     tie.close
     (tie.spec
-    u32-at-requires (search rules) add-count returns ids-over-requires returns-2
-    (λ c κs. omega (arith, id_fits c)) bodies-end-requires (λ c. omega (arith, bodies-small c))
-    (λ c. omega (arith, bodies-small c)) (λ c. omega (arith, bodies-small c))
-    (λ c κs. omega (arith, bodies-small c)) add-round-up-2 round-up-requires-2 add-end-2 returns-3 returns-4
-    add-id put-bodies-requires (search rules) slice-aggregate-put-manifest slice-aggregate-put-manifest-2
-    put-manifest-requires (search rules) (search rules) returns-5)
+    u32-at-requires (search rules) add-count returns ids-over-requires returns-2 (λ c κs. omega (arith, id_fits c)) bodies-end-requires (λ c. omega (arith, bodies-small c)) (λ c. omega (arith, bodies-small c)) (λ c. omega (arith, bodies-small c)) (λ c κs. omega (arith, bodies-small c)) add-round-up-2 round-up-requires-2 add-end-2 returns-3 returns-4 add-id put-bodies-requires (search rules) slice-aggregate-put-manifest slice-aggregate-put-manifest-2 put-manifest-requires (search rules) (search rules) returns-5)

@@ -8,46 +8,44 @@ use borrow.Author.Rules.{rules}
 use Rattle.append.proofs.form.line_held.Statement.{statement}
 use Rattle.append.proofs.form.line_held.Tie as tie
 
-returns : tie.Need-returns
-returns c = line_kind _ _ (sym c.before.kind_held.ensures ∙ not-true _ c.if1.true)
+returns : tie.Need-returns-then-not-kind_held
+returns c = line_kind _ _ (sym c.kind_held.ensures ∙ c.if-not-kind_held.true)
 
-returns-2 : tie.Need-returns-2
-returns-2 c = line_reserved _ _ (sym c.before.kind-reserved.ensures ∙ c.if2.true)
+returns-2 : tie.Need-returns-then-kind_reserved
+returns-2 c = line_reserved _ _ (sym c.kind_reserved.ensures ∙ c.if-kind_reserved.true)
 
-returns-3 : tie.Need-returns-3
-returns-3 c = line_manifest _ _ c.if3.true
+returns-3 : tie.Need-returns-then-line-eq-KIND
+returns-3 c = line_manifest _ _ c.if-line-eq-KIND.true
 
-returns-4 : tie.Need-returns-4
-returns-4 c = line_zero _ _ c.if4.true
+returns-4 : tie.Need-returns-then-line-ne0
+returns-4 c = line_zero _ _ c.if-line-ne0.true
 
-returns-5 : tie.Need-returns-5
-returns-5 c = line_flags _ _ (ap flags_held (sym c.before.before.u16-at.ensures)
-    ∙ sym c.before.flags_are_held.ensures ∙ not-true _ c.if5.true)
+returns-5 : tie.Need-returns-then-not-flags_held
+returns-5 c = line_flags _ _ (ap flags_held (sym c.u16_at.ensures)
+    ∙ sym c.flags_held.ensures ∙ c.if-not-flags_held.true)
 
-returns-6 : tie.Need-returns-6
-returns-6 c = line_offset _ _ _ c.before.u32-at.ensures c.if6.true
+returns-6 : tie.Need-returns-then-u32_at-at
+returns-6 c = line_offset _ _ _ c.u32_at.ensures c.if-u32_at-at.true
 
-returns-7 : tie.Need-returns-7
+returns-7 : tie.Need-returns
 returns-7 c =
-    let e6 = c.before.before in
-    let e5 = e6.before.before in
-    let ua = e5.before.before in
-    let e3 = ua.before.before.before in
-    let e2 = e3.before.before in
-    let e1 = e2.before.before.before in
+    let e6 = c in
+    let e5 = e6 in
+    let ua = e5 in
+    let e3 = ua in
+    let e2 = e3 in
+    let e1 = e2 in
     line_holds _ _ _
-    (sym e1.before.kind_held.ensures ∙ not-false _ e1.if1.false)
-    (sym e2.before.kind-reserved.ensures ∙ e2.if2.false)
-    e3.if3.false
-    ua.before.if4.false
-    (ap flags_held (sym ua.u16-at.ensures) ∙ sym e5.before.flags_are_held.ensures ∙ not-false _ e5.if5.false)
-    (sym e6.before.u32-at.ensures ∙ e6.if6.false)
+    (sym e1.kind_held.ensures ∙ e1.if-not-kind_held.false)
+    (sym e2.kind_reserved.ensures ∙ e2.if-kind_reserved.false)
+    e3.if-line-eq-KIND.false
+    ua.if-line-ne0.false
+    (ap flags_held (sym ua.u16_at.ensures) ∙ sym e5.flags_held.ensures ∙ e5.if-not-flags_held.false)
+    (sym e6.u32_at.ensures ∙ e6.if-u32_at-at.false)
     c.is_zero.ensures
 
 pub line_held_spec : {M : Type 1} → statement M
 line_held_spec =
     tie.close
     (tie.spec
-    (search rules) (search rules) returns (search rules) (search rules) returns-2 (search rules) returns-3
-    (search rules) returns-4 (search rules) (search rules) returns-5 (search rules) (search rules) returns-6
-    (search rules) (search rules) (search rules) (search rules) returns-7)
+    (search rules) (search rules) returns (search rules) (search rules) returns-2 (search rules) returns-3 (search rules) returns-4 (search rules) (search rules) returns-5 (search rules) (search rules) returns-6 (search rules) (search rules) (search rules) (search rules) returns-7)

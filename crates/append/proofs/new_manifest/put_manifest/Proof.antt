@@ -17,72 +17,67 @@ use borrow.Author.Rules.{rules}
 use Rattle.append.proofs.new_manifest.put_manifest.Statement.{statement}
 use Rattle.append.proofs.new_manifest.put_manifest.Tie as tie
 
-slice-aggregate-put-payload-2 : tie.Need-slice-aggregate-put-payload-2
+slice-aggregate-put-payload-2 : tie.Need-slice_bounds-put_payload-end-3
 slice-aggregate-put-payload-2 c =
-    let s = c.before.before.before.before.before in
+    let s = c in
     sym (length-take-le s.args.at s.args.buf.now (omega (arith, s.requires.1.0.0)))
 
-put-payload-requires : tie.Need-put-payload-requires
+put-payload-requires : tie.Need-put_payload-n-requires
 put-payload-requires c κs =
-    let s = c.before.before.before.before.before in
+    let s = c in
     let m = payload_most (length s.args.offsets.now) s.requires.0.0 in
     ((omega (arith, m), s.requires.0.1), (s.requires.1.1, omega (arith, s.requires.1.0.1, m)))
 
 -- Where the payload is written: it stands at the front of the list, and ends with a root.
-module _ (pp : tie.After-put-payload) where
-  abbrev s : tie.Start
-  s = pp.before.before.before.before.before.before
-
+module _ (pp : tie.After-put_payload-n) where
   abbrev wanted : List ℕ
-  wanted = payload_at (take s.args.at s.args.buf.now) s.args.offsets.now s.args.states.now s.args.at s.args.id
+  wanted = payload_at (take pp.args.at pp.args.buf.now) pp.args.offsets.now pp.args.states.now pp.args.at pp.args.id
 
-  long : length wanted ≡ payload_length (length s.args.offsets.now)
-  long = length_payload_at (take s.args.at s.args.buf.now) s.args.offsets.now s.args.states.now s.args.at s.args.id s.pre.1.1
+  long : length wanted ≡ payload_length (length pp.args.offsets.now)
+  long = length_payload_at (take pp.args.at pp.args.buf.now) pp.args.offsets.now pp.args.states.now pp.args.at pp.args.id pp.requires.1.1
 
-  front : take pp.put_payload.result pp.put_payload.last.0 ≡ wanted
-  front = laid_front pp.put_payload.last.0 _ _ pp.put_payload.result pp.put_payload.ensures.1 (long ∙ sym pp.put_payload.ensures.0)
+  front : take pp.put_payload-n.result pp.put_payload-n.new.buf ≡ wanted
+  front = laid_front pp.put_payload-n.new.buf _ _ pp.put_payload-n.result pp.put_payload-n.ensures.1 (long ∙ sym pp.put_payload-n.ensures.0)
 
-  counted : pp.put_payload.result ≡ length (take pp.put_payload.result pp.put_payload.last.0)
-  counted = pp.put_payload.ensures.0 ∙ sym long ∙ sym (ap length front)
+  counted : pp.put_payload-n.result ≡ length (take pp.put_payload-n.result pp.put_payload-n.new.buf)
+  counted = pp.put_payload-n.ensures.0 ∙ sym long ∙ sym (ap length front)
 
-  fits : pp.put_payload.result ≤ 53312
-  fits = omega (arith, payload_most (length s.args.offsets.now) s.pre.0.0, pp.put_payload.ensures.0)
+  fits : pp.put_payload-n.result ≤ 53312
+  fits = omega (arith, payload_most (length pp.args.offsets.now) pp.requires.0.0, pp.put_payload-n.ensures.0)
 
-array-share-prefix-payload : tie.Need-array-share-prefix-payload
+array-share-prefix-payload : tie.Need-slice_bounds-payload-end
 array-share-prefix-payload c = omega (arith, fits c.before)
 
-slice-aggregate-payload-sum : tie.Need-slice-aggregate-payload-sum
+slice-aggregate-payload-sum : tie.Need-slice_bounds-payload_sum-end
 slice-aggregate-payload-sum c = counted c.before.before
 
-payload-sum-requires : tie.Need-payload-sum-requires
+payload-sum-requires : tie.Need-payload_sum-sum-requires
 payload-sum-requires c κs = payload_rooted _ _ _ _ _ _ (front c.before.before)
 
-array-share-prefix-payload-2 : tie.Need-array-share-prefix-payload-2
+array-share-prefix-payload-2 : tie.Need-slice_bounds-payload-end-2
 array-share-prefix-payload-2 c = omega (arith, fits c.before.before.before.before)
 
-slice-aggregate-put-segment : tie.Need-slice-aggregate-put-segment
+slice-aggregate-put-segment : tie.Need-slice_bounds-put_segment-end-2
 slice-aggregate-put-segment c = counted c.before.before.before.before.before
 
-put-segment-requires : tie.Need-put-segment-requires
+put-segment-requires : tie.Need-put_segment-requires
 put-segment-requires c κs =
-    let pp = c.before.before.before.before.before in
-    let s = s pp in
+    let pp = c in
+    let s = pp in
     let at = s.args.at in
     let buf = s.args.buf.now in
-    let r : round64 (length (take pp.put_payload.result pp.put_payload.new.0)) ≡ round64
-    (payload_length (length s.args.offsets.now)) = ap round64 (ap length (front pp) ∙ long pp) in
-    (omega (arith, r, s.pre.1.0.0, length-take (length buf - at) (drop at buf), length-drop at buf), c.before.before.payload-sum.ensures)
+    let r : round64 (length (take pp.put_payload-n.result pp.put_payload-n.new.buf)) ≡ round64
+    (payload_length (length s.args.offsets.now)) = ap round64 (ap length (front c.before.before.before.before.before) ∙ long c.before.before.before.before.before) in
+    (omega (arith, r, s.requires.1.0.0, length-take (length buf - at) (drop at buf), length-drop at buf), c.payload_sum-sum.ensures)
 
 returns : tie.Need-returns
 returns c =
-    let pp = c.before.before.before.before.before.before.before.before in
-    let r : round64 (length (wanted pp)) ≡ round64 (payload_length (length (s pp).args.offsets.now)) = ap round64 (long pp) in
-    manifest_laid _ _ _ _ _ _ _ _ _ (front pp) c.before.before.put-segment.ensures.1 (omega (arith, r, (s pp).requires.1.0.0))
+    let pp = c in
+    let r : round64 (length (wanted c.before.before.before.before.before.before.before.before)) ≡ round64 (payload_length (length pp.args.offsets.now)) = ap round64 (long c.before.before.before.before.before.before.before.before) in
+    manifest_laid _ _ _ _ _ _ _ _ _ (front c.before.before.before.before.before.before.before.before) c.put_segment.ensures.1 (omega (arith, r, pp.requires.1.0.0))
 
 pub put_manifest_spec : {M : Type 1} → statement M
 put_manifest_spec =
     tie.close
     (tie.spec
-    (search rules) (search rules) slice-aggregate-put-payload-2 put-payload-requires array-share-prefix-payload
-    slice-aggregate-payload-sum payload-sum-requires (search rules) (search rules) (search rules)
-    array-share-prefix-payload-2 slice-aggregate-put-segment put-segment-requires (search rules) returns)
+    (search rules) (search rules) slice-aggregate-put-payload-2 put-payload-requires array-share-prefix-payload slice-aggregate-payload-sum payload-sum-requires (search rules) (search rules) (search rules) array-share-prefix-payload-2 slice-aggregate-put-segment put-segment-requires (search rules) returns)

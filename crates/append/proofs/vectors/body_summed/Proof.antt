@@ -11,53 +11,51 @@ use Rattle.append.proofs.vectors.body_summed.Tie as tie
 line : (s : tie.Start) → BodyAt s.args.batch.now s.args.j
 line s = body_at s.args.batch.now s.requires.0 s.args.j s.requires.1
 
-mul-line : tie.Need-overflow-mul-line
+mul-line : tie.Need-overflow_mul-line
 mul-line c = omega (arith, (line c.before).line_room)
 
-add-line : tie.Need-overflow-add-line
+add-line : tie.Need-overflow_add-line
 add-line c = omega (arith, (line c.before).line_room)
 
-add-u32-at : tie.Need-overflow-add-u32-at
+add-u32-at : tie.Need-overflow_add-line-2
 add-u32-at c = omega (arith, (line c.before).line_room)
 
-u32-at-requires : tie.Need-u32-at-requires
+u32-at-requires : tie.Need-u32_at-from-requires
 u32-at-requires c κs = omega (arith, (line c.before).line_room)
 
-add-u32-at-2 : tie.Need-overflow-add-u32-at-2
+add-u32-at-2 : tie.Need-overflow_add-line-3
 add-u32-at-2 c = omega (arith, (line c.before.before).line_room)
 
-u32-at-requires-2 : tie.Need-u32-at-requires-2
+u32-at-requires-2 : tie.Need-u32_at-requires
 u32-at-requires-2 c κs = omega (arith, (line c.before.before).line_room)
 
-shared-slice-read-if1 : tie.Need-shared-slice-read-if1
+shared-slice-read-if1 : tie.Need-bounds-batch-line
 shared-slice-read-if1 c = omega (arith, (line c.before.before.before.before).line_room)
 
-part-checksum-end : tie.Need-slice-bounds-checksum-end
+part-checksum-end : tie.Need-slice_bounds-checksum-end
 part-checksum-end c =
-    let u2 = c.before.before in
-    omega (arith, (line u2.before.before.before).room, u2.before.u32-at.ensures, u2.u32-at2.ensures)
+    let u2 = c in
+    omega (arith, (line c.before.before.before.before.before).room, u2.u32_at-from.ensures, u2.u32_at.ensures)
 
-returns : tie.Need-returns
+returns : tie.Need-returns-then-batch-line-ne-KIND
 returns c =
-    let t = c.before.before in
-    let u2 = t.before.before in
-    body_other _ _ (line u2.before.before.before) _ _ u2.before.u32-at.ensures u2.u32-at2.ensures t.if1.true _ c.checksum.ensures
+    let t = c in
+    let u2 = t in
+    body_other _ _ (line c.before.before.before.before.before.before.before) _ _ u2.u32_at-from.ensures u2.u32_at.ensures t.if-batch-line-ne-KIND.true _ c.checksum.ensures
 
-part-check-summed-end : tie.Need-slice-bounds-check-summed-end
+part-check-summed-end : tie.Need-slice_bounds-check_summed-end
 part-check-summed-end c =
-    let u2 = c.before.before in
-    omega (arith, (line u2.before.before.before).room, u2.before.u32-at.ensures, u2.u32-at2.ensures)
+    let u2 = c in
+    omega (arith, (line c.before.before.before.before.before).room, u2.u32_at-from.ensures, u2.u32_at.ensures)
 
-returns-2 : tie.Need-returns-2
+returns-2 : tie.Need-returns
 returns-2 c =
-    let e = c.before.before in
-    let u2 = e.before.before in
-    body_checked _ _ (line u2.before.before.before) _ _ u2.before.u32-at.ensures u2.u32-at2.ensures e.if1.false _ c.check-summed.ensures
+    let e = c in
+    let u2 = e in
+    body_checked _ _ (line c.before.before.before.before.before.before.before) _ _ u2.u32_at-from.ensures u2.u32_at.ensures e.if-batch-line-ne-KIND.false _ c.check_summed.ensures
 
 pub body_summed_spec : {M : Type 1} → statement M
 body_summed_spec =
     tie.close
     (tie.spec
-    mul-line add-line add-u32-at u32-at-requires (search rules) add-u32-at-2 u32-at-requires-2 (search rules)
-    (search rules) shared-slice-read-if1 (search rules) (search rules) part-checksum-end (search rules) returns
-    (search rules) (search rules) part-check-summed-end (search rules) returns-2)
+    mul-line add-line add-u32-at u32-at-requires (search rules) add-u32-at-2 u32-at-requires-2 (search rules) (search rules) shared-slice-read-if1 (search rules) (search rules) part-checksum-end (search rules) returns (search rules) (search rules) part-check-summed-end (search rules) returns-2)

@@ -11,69 +11,65 @@ use borrow.Author.Rules.{rules}
 use Rattle.append.proofs.vectors.vectors_bad.Statement.{statement}
 use Rattle.append.proofs.vectors.vectors_bad.Tie as tie
 
-abbrev invariant-loop : tie.invariant-loop
-invariant-loop batch sums₀ count j₀ sums j = SumsAt (bodies_of batch) sums₀ sums j
+abbrev invariant-loop-j : tie.invariant-loop-j
+invariant-loop-j batch sums₀ count j₀ sums j = SumsAt (bodies_of batch) sums₀ sums j
 
-abbrev decreases-loop : tie.decreases-loop
-decreases-loop batch sums₀ count j₀ sums j = count - j
+abbrev decreases-loop-j : tie.decreases-loop-j
+decreases-loop-j batch sums₀ count j₀ sums j = count - j
 
 -- Where the batch's count is read: it is that of the bodies, for each of which there is room.
-module _ (u : tie.After-u32-at invariant-loop decreases-loop) where
-  abbrev s : tie.Start invariant-loop decreases-loop
-  s = u.before.before.before
+module _ (u : tie.After-u32_at-count invariant-loop-j decreases-loop-j) where
+  count : length (bodies_of u.args.batch.now) ≡ u.u32_at-count.result
+  count = bodies_count u.args.batch.now ∙ sym (count_is u.args.batch.now u.u32_at-count.result u.u32_at-count.ensures)
 
-  count : length (bodies_of s.args.batch.now) ≡ u.u32-at.result
-  count = bodies_count s.args.batch.now ∙ sym (count_is s.args.batch.now u.u32-at.result u.u32-at.ensures)
+  room : length (bodies_of u.args.batch.now) ≤ length u.args.sums.now
+  room = omega (arith, bodies_count u.args.batch.now, held_bounds u.args.batch.now u.requires.0, u.requires.1)
 
-  room : length (bodies_of s.args.batch.now) ≤ length s.args.sums.now
-  room = omega (arith, bodies_count s.args.batch.now, held_bounds s.args.batch.now s.pre.0, s.pre.1)
-
-u32-at-requires : tie.Need-u32-at-requires invariant-loop decreases-loop
+u32-at-requires : tie.Need-u32_at-count-requires invariant-loop-j decreases-loop-j
 u32-at-requires c κs =
-    let s = c.before.before in
+    let s = c in
     omega (arith, held_bounds s.args.batch.now s.requires.0)
 
-loop-holds : tie.Need-loop-init invariant-loop decreases-loop
+loop-holds : tie.Need-loop-j-init invariant-loop-j decreases-loop-j
 loop-holds c = sums_first _ _
 
-body-summed-requires : tie.Need-body-summed-requires invariant-loop decreases-loop
+body-summed-requires : tie.Need-body_summed-body-requires invariant-loop-j decreases-loop-j
 body-summed-requires c κs =
-    let u = c.before.before in
-    ((s u).requires.0, omega (arith, count u, bodies_count (s u).args.batch.now))
+    let u = c in
+    (u.requires.0, omega (arith, count c.before.before, bodies_count u.args.batch.now))
 
-same_length : tie.Need-same-length invariant-loop decreases-loop
-same_length c = c.before.before.before.before.before.loop.invariant.many
+same_length : tie.Need-shape_of-sums-in-Refused invariant-loop-j decreases-loop-j
+same_length c = c.loop-j.invariant.many
 
-returns : tie.Need-returns invariant-loop decreases-loop
+returns : tie.Need-returns-in-Refused invariant-loop-j decreases-loop-j
 returns c =
-    let b = c.before.before.before in
-    let l = b.before.before in
-    sums_stop _ _ _ _ l.loop.invariant (omega (arith, count l.before)) _ (body_count (s l.before).args.batch.now)
-    (sym b.body-summed.ensures ∙ c.before.body.given.1)
+    let b = c in
+    let l = b in
+    sums_stop _ _ _ _ l.loop-j.invariant (omega (arith, count c.before.before.before.before)) _ (body_count l.args.batch.now)
+    (sym b.body_summed-body.ensures ∙ c.in-Refused.is)
 
-slice-write-sums : tie.Need-slice-write-sums invariant-loop decreases-loop
+slice-write-sums : tie.Need-bounds-sums-j invariant-loop-j decreases-loop-j
 slice-write-sums c =
-    let l = c.before.before.before.before.before in
-    omega (arith, count l.before, room l.before, l.loop.invariant.many)
+    let l = c in
+    omega (arith, count c.before.before.before.before, room c.before.before.before.before, l.loop-j.invariant.many)
 
-loop-again : tie.Need-loop-preserved invariant-loop decreases-loop
+loop-again : tie.Need-loop-j-preserved invariant-loop-j decreases-loop-j
 loop-again c =
-    let b = c.before.before.before in
-    let l = b.before.before in
-    sums_next _ _ _ _ l.loop.invariant (omega (arith, count l.before)) (room l.before) _
-    (sym b.body-summed.ensures ∙ c.before.body2.given.1)
+    let b = c in
+    let l = b in
+    sums_next _ _ _ _ l.loop-j.invariant (omega (arith, count c.before.before.before.before)) (room c.before.before.before.before) _
+    (sym b.body_summed-body.ensures ∙ c.in-Sound.is)
 
-same-length-2 : tie.Need-same-length-2 invariant-loop decreases-loop
-same-length-2 c = c.before.loop.invariant.many
+same-length-2 : tie.Need-shape_of-sums invariant-loop-j decreases-loop-j
+same-length-2 c = c.loop-j.invariant.many
 
-returns-2 : tie.Need-returns-2 invariant-loop decreases-loop
+returns-2 : tie.Need-returns invariant-loop-j decreases-loop-j
 returns-2 c =
-    let u = c.before.before in
-    sums_last _ _ _ _ _ c.before.loop.invariant (bodies_count (s u).args.batch.now) (omega (arith, count u, bodies_count (s u).args.batch.now))
+    let u = c in
+    sums_last _ _ _ _ _ c.loop-j.invariant (bodies_count u.args.batch.now) (omega (arith, count c.before.before, bodies_count u.args.batch.now))
 
 pub vectors_bad_spec : {M : Type 1} → statement M
 vectors_bad_spec =
     tie.close
     (tie.spec
-    invariant-loop decreases-loop u32-at-requires (search rules) loop-holds body-summed-requires (search rules) same_length returns
-    (search rules) (search rules) slice-write-sums (search rules) (search rules) loop-again same-length-2 returns-2)
+    invariant-loop-j decreases-loop-j u32-at-requires (search rules) loop-holds body-summed-requires (search rules) same_length returns (search rules) (search rules) slice-write-sums (search rules) (search rules) loop-again same-length-2 returns-2)

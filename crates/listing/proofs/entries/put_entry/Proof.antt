@@ -7,27 +7,26 @@ use Rattle.listing.specs.line.Lines.{state_live, state_retired}
 use Rattle.listing.proofs.entries.put_entry.Statement.{statement}
 use Rattle.listing.proofs.entries.put_entry.Tie as tie
 
-same_length : tie.Need-same-length
-same_length c = c.before.before.put-segment.auto.0
+same_length : tie.Need-shape_of-text-then-state-eq0
+same_length c = c.put_segment.auto.text
 
-returns : tie.Need-returns
+returns : tie.Need-returns-then-state-eq0
 unfolding ascii
 returns c =
-    let ps = c.before.before in
-    (state_live _ _ _ ps.before.before.before.if1.true ps.put-segment.ensures.0, ps.put-segment.ensures.1)
+    let ps = c in
+    (state_live _ _ _ ps.if-state-eq0.true ps.put_segment.ensures.0, ps.put_segment.ensures.1)
 
-same-length-2 : tie.Need-same-length-2
-same-length-2 c = c.before.before.put-segment2.auto.0
+same-length-2 : tie.Need-shape_of-text
+same-length-2 c = c.put_segment-2.auto.text
 
-returns-2 : tie.Need-returns-2
+returns-2 : tie.Need-returns
 unfolding ascii
 returns-2 c =
-    let ps2 = c.before.before in
-    (state_retired _ _ _ ps2.before.before.before.if1.false ps2.put-segment2.ensures.0, ps2.put-segment2.ensures.1)
+    let ps2 = c in
+    (state_retired _ _ _ ps2.if-state-eq0.false ps2.put_segment-2.ensures.0, ps2.put_segment-2.ensures.1)
 
 pub put_entry_spec : {M : Type 1} → statement M
 put_entry_spec =
     tie.close
     (tie.spec
-    (λ c. refl) (λ c κs. omega arith) same_length returns (λ c. refl) (λ c κs. omega arith) same-length-2
-    returns-2)
+    (λ c κs. omega arith) same_length returns (λ c κs. omega arith) same-length-2 returns-2)

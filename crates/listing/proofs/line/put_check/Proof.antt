@@ -7,27 +7,26 @@ use Rattle.listing.specs.line.Lines.{check_ok, check_bad}
 use Rattle.listing.proofs.line.put_check.Statement.{statement}
 use Rattle.listing.proofs.line.put_check.Tie as tie
 
-same_length : tie.Need-same-length
-same_length c = c.before.before.put-bytes.auto.0
+same_length : tie.Need-shape_of-text-then-whole
+same_length c = c.put_bytes.auto.buf
 
-returns : tie.Need-returns
+returns : tie.Need-returns-then-whole
 unfolding ascii
 returns c =
-    let pb = c.before.before in
-    (check_ok _ pb.before.before.before.if1.true pb.put-bytes.ensures, omega (arith, pb.put-bytes.ensures.ends))
+    let pb = c in
+    (check_ok _ pb.if-whole.true pb.put_bytes.ensures, omega (arith, pb.put_bytes.ensures.ends))
 
-same-length-2 : tie.Need-same-length-2
-same-length-2 c = c.before.before.put-bytes2.auto.0
+same-length-2 : tie.Need-shape_of-text
+same-length-2 c = c.put_bytes-2.auto.buf
 
-returns-2 : tie.Need-returns-2
+returns-2 : tie.Need-returns
 unfolding ascii
 returns-2 c =
-    let pb2 = c.before.before in
-    (check_bad _ pb2.before.before.before.if1.false pb2.put-bytes2.ensures, omega (arith, pb2.put-bytes2.ensures.ends))
+    let pb2 = c in
+    (check_bad _ pb2.if-whole.false pb2.put_bytes-2.ensures, omega (arith, pb2.put_bytes-2.ensures.ends))
 
 pub put_check_spec : {M : Type 1} → statement M
 put_check_spec =
     tie.close
     (tie.spec
-    (λ c. refl) (λ c κs. omega arith) same_length returns (λ c. refl) (λ c κs. omega arith) same-length-2
-    returns-2)
+    (λ c κs. omega arith) same_length returns (λ c κs. omega arith) same-length-2 returns-2)

@@ -7,36 +7,33 @@ use Rattle.listing.specs.line.Lines.{line_written}
 use Rattle.listing.proofs.line.put_segment.Statement.{statement}
 use Rattle.listing.proofs.line.put_segment.Tie as tie
 
-cast-kind : tie.Need-overflow-cast-kind
-cast-kind c = omega (arith, c.shared-slice-known3.given (c.before.before.before.before.before.args.p + 5))
+cast-kind : tie.Need-overflow_cast-kind
+cast-kind c = omega (arith, c.shared_slice_known-3-1.given (c.args.p + 5))
 
-same_length : tie.Need-same-length
+same_length : tie.Need-shape_of-text
 same_length c =
-    let pb = c.before.before.before.before.before.before.before in
-    let pc2 = pb.before.before.before.before in
-    c.before.before.put-check.auto.0 ∙ pb.put-bytes.auto.0 ∙ pc2.put-columns2.auto.0
-    ∙ pc2.before.before.before.before.put-columns.auto.0
+    let pb = c in
+    let pc2 = pb in
+    c.put_check.auto.text ∙ pb.put_bytes-stated.auto.buf ∙ pc2.put_columns-placed.auto.text
+    ∙ pc2.put_columns-named.auto.text
 
 returns : tie.Need-returns
 returns c =
-    let pk = c.before.before.put-check in
-    let pb = c.before.before.before.before.before.before.before.put-bytes in
-    let pc2 = c.before.before.before.before.before.before.before.before.before.before.before.put-columns2 in
-    let pc = c.before.before.before.before.before.before.before.before.before.before.before.before.before.before.before.put-columns in
-    let s =
-    c.before.before.before.before.before.before.before.before.before.before.before.before.before.before.before.before.before.before.before.before.before.before.before in (
+    let pk = c.put_check in
+    let pb = c.put_bytes-stated in
+    let pc2 = c.put_columns-placed in
+    let pc = c.put_columns-named in
+    let s = c in (
       line_written _ _ _ _ _ _ _
-          c.before.before.before.before.before.before.before.before.before.before.before.before.before.before.before.before.u64-at2.ensures
+          c.u64_at.ensures
           refl
-          c.before.before.before.before.before.before.before.before.before.before.before.before.before.before.before.before.before.before.before.u64-at.ensures
-          c.before.before.before.is_whole.ensures pc.ensures.0 pc2.ensures.0 pb.ensures pk.ensures.0,
-      omega (arith, s.pre, s.fits, pc.ensures.1, pc2.ensures.1, pb.ensures.ends, pk.ensures.1),
+          c.u64_at-length.ensures
+          c.is_whole.ensures pc.ensures.0 pc2.ensures.0 pb.ensures pk.ensures.0,
+      omega (arith, s.requires, s.well_formed, pc.ensures.1, pc2.ensures.1, pb.ensures.ends, pk.ensures.1),
     )
 
 pub put_segment_spec : {M : Type 1} → statement M
 put_segment_spec =
     tie.close
     (tie.spec
-    (λ c. omega arith) (λ c κs. omega arith) (λ c. omega arith) (λ c. omega arith) cast-kind (λ c. omega arith)
-    (λ c κs. omega arith) (λ c κs. omega arith) (λ c κs. omega arith) (λ c κs. omega arith)
-    (λ c κs. omega arith) (λ c κs. omega arith) same_length returns)
+    (λ c. omega arith) (λ c κs. omega arith) (λ c. omega arith) (λ c. omega arith) cast-kind (λ c. omega arith) (λ c κs. omega arith) (λ c κs. omega arith) (λ c κs. omega arith) (λ c κs. omega arith) (λ c κs. omega arith) (λ c κs. omega arith) same_length returns)

@@ -9,20 +9,19 @@ use borrow.Author.Rules.{rules}
 use Rattle.lookup.proofs.in_file.find.Statement.{statement}
 use Rattle.lookup.proofs.in_file.find.Tie as tie
 
-find-down-requires : tie.Need-find-down-requires
+find-down-requires : tie.Need-find_down-requires
 find-down-requires c κs =
-    let f2 = c.before.before.before in
-    let ow = f2.before.before.before in
-    let w = manifest_at _ _ _ _ _ (sym ow.file-manifest.ensures.0 ∙ f2.found2.given.1) in
+    let f2 = c in
+    let ow = f2 in
+    let w = manifest_at _ _ _ _ _ (sym ow.file_manifest-found.ensures.0 ∙ f2.in-At.is) in
     let m = opened_at _ _ _ w.0 _ _ w.1 in
-    ((omega arith, omega arith), (ow.file-manifest.ensures.1 m.within, m))
+    ((omega arith, omega arith), (ow.file_manifest-found.ensures.1 m.within, m))
 
-returns : tie.Need-returns
-returns c = located_refused _ _ _ (sym c.before.before.before.before.file-manifest.ensures.0 ∙ c.before.found.given.1)
+returns : tie.Need-returns-in-Refused
+returns c = located_refused _ _ _ (sym c.file_manifest-found.ensures.0 ∙ c.in-Refused.is)
 
 pub find_spec : {M : Type 1} → statement M
 find_spec =
     tie.close
     (tie.spec
-    (search rules) (search rules) (search rules) (search rules) (search rules) (search rules)
-    find-down-requires returns (λ c. search rules))
+    (search rules) (search rules) (search rules) (search rules) (search rules) (search rules) find-down-requires returns (λ c. search rules))

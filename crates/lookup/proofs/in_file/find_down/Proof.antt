@@ -10,118 +10,111 @@ use borrow.Author.Rules.{rules}
 use Rattle.lookup.proofs.in_file.find_down.Statement.{statement}
 use Rattle.lookup.proofs.in_file.find_down.Tie as tie
 
-abbrev invariant-loop : tie.invariant-loop
-invariant-loop file offsets manifest count id scratch₀ i₀ scratch i = SegmentsPassed file id count i × (length scratch ≡ length scratch₀)
+abbrev invariant-loop-i : tie.invariant-loop-i
+invariant-loop-i file offsets manifest count id scratch₀ i₀ scratch i = SegmentsPassed file id count i × (length scratch ≡ length scratch₀)
 
-abbrev decreases-loop : tie.decreases-loop
-decreases-loop file offsets manifest count id scratch₀ i₀ scratch i = i
+abbrev decreases-loop-i : tie.decreases-loop-i
+decreases-loop-i file offsets manifest count id scratch₀ i₀ scratch i = i
 
 -- The entry that is looked at.
-module _ (b : tie.In-loop invariant-loop decreases-loop) where
-  abbrev s : tie.Start invariant-loop decreases-loop
-  s = b.before.before.before.before.before
-
-  entry : EntryAt s.args.file.now s.args.offsets.now s.pre.1.1.found s.args.manifest (b.before.loop.i - 1)
+module _ (b : tie.In-loop-i invariant-loop-i decreases-loop-i) where
+  entry : EntryAt b.args.file.now b.args.offsets.now b.requires.1.1.found b.args.manifest (b.loop-i.i - 1)
   entry =
-      let at_most = b.before.loop.inv.0.at_most in
-      entry_at _ _ _ _ (λ k. omega (arith, b.before.before.before.before.shared-slice-known.given k))
-      s.pre.1.0 s.pre.0.0 s.pre.1.1 (b.before.loop.i - 1) (omega arith)
+      let at_most = b.loop-i.invariant.0.at_most in
+      entry_at _ _ _ _ (λ k. omega (arith, b.shared_slice_known-1.given k))
+      b.requires.1.0 b.requires.0.0 b.requires.1.1 (b.loop-i.i - 1) (omega arith)
 
-loop-holds : tie.Need-loop-init invariant-loop decreases-loop
-loop-holds c = (search_first _ _ _ _ c.before.before.before.requires.1.1, search rules)
+loop-holds : tie.Need-loop-i-init invariant-loop-i decreases-loop-i
+loop-holds c = (search_first _ _ _ _ c.requires.1.1, search rules)
 
-add-if1 : tie.Need-overflow-add-if1 invariant-loop decreases-loop
+add-if1 : tie.Need-overflow_add-p invariant-loop-i decreases-loop-i
 add-if1 c =
-    let b = c.before in
-    omega (arith, entry b, (s b).requires.1.1.within)
+    let b = c in
+    omega (arith, entry c.before, b.requires.1.1.within)
 
-shared-slice-read-if1 : tie.Need-shared-slice-read-if1 invariant-loop decreases-loop
+shared-slice-read-if1 : tie.Need-bounds-file-p invariant-loop-i decreases-loop-i
 shared-slice-read-if1 c =
-    let b = c.before.before in
-    omega (arith, entry b, (s b).requires.1.1.within)
+    let b = c in
+    omega (arith, entry c.before.before, b.requires.1.1.within)
 
-loop-again : tie.Need-loop-preserved invariant-loop decreases-loop
+loop-again : tie.Need-loop-i-preserved-then-file-p-ne-KIND invariant-loop-i decreases-loop-i
 loop-again c =
-    let b = c.before.before.before in
-    (search_other _ _ _ _ (s b).requires.1.1 _ _ _ b.before.loop.invariant.0 (omega arith) (entry b) c.if1.true, b.before.loop.invariant.1)
+    let b = c in
+    (search_other _ _ _ _ b.requires.1.1 _ _ _ b.loop-i.invariant.0 (omega arith) (entry c.before.before.before) c.if-file-p-ne-KIND.true, b.loop-i.invariant.1)
 
-add-if2 : tie.Need-overflow-add-if2 invariant-loop decreases-loop
+add-if2 : tie.Need-overflow_add-manifest invariant-loop-i decreases-loop-i
 add-if2 c =
-    let b = c.before.before.before in
-    omega (arith, entry b, (s b).requires.1.1.within)
+    let b = c in
+    omega (arith, entry c.before.before.before, b.requires.1.1.within)
 
-mul-if2 : tie.Need-overflow-mul-if2 invariant-loop decreases-loop
+mul-if2 : tie.Need-overflow_mul-i invariant-loop-i decreases-loop-i
 mul-if2 c =
-    let b = c.before.before.before in
-    omega (arith, entry b, (s b).requires.1.1.within)
+    let b = c in
+    omega (arith, entry c.before.before.before, b.requires.1.1.within)
 
-add-if2-2 : tie.Need-overflow-add-if2-2 invariant-loop decreases-loop
+add-if2-2 : tie.Need-overflow_add-manifest-in-loop-i invariant-loop-i decreases-loop-i
 add-if2-2 c =
-    let b = c.before.before.before in
-    omega (arith, entry b, (s b).requires.1.1.within)
+    let b = c in
+    omega (arith, entry c.before.before.before, b.requires.1.1.within)
 
-add-if2-3 : tie.Need-overflow-add-if2-3 invariant-loop decreases-loop
+add-if2-3 : tie.Need-overflow_add-manifest-in-loop-i-2 invariant-loop-i decreases-loop-i
 add-if2-3 c =
-    let b = c.before.before.before in
-    omega (arith, entry b, (s b).requires.1.1.within)
+    let b = c in
+    omega (arith, entry c.before.before.before, b.requires.1.1.within)
 
-shared-slice-read-if2 : tie.Need-shared-slice-read-if2 invariant-loop decreases-loop
+shared-slice-read-if2 : tie.Need-bounds-file-manifest invariant-loop-i decreases-loop-i
 shared-slice-read-if2 c =
-    let b = c.before.before.before.before in
-    omega (arith, entry b, (s b).requires.1.1.within)
+    let b = c in
+    omega (arith, entry c.before.before.before.before, b.requires.1.1.within)
 
-loop-again-2 : tie.Need-loop-preserved-2 invariant-loop decreases-loop
+loop-again-2 : tie.Need-loop-i-preserved-then-file-manifest-ne0 invariant-loop-i decreases-loop-i
 loop-again-2 c =
-    let b = c.before.before.before.before.before in
-    (search_retired _ _ _ _ (s b).requires.1.1 _ _ _ b.before.loop.invariant.0 (omega arith) (entry b) c.if2.true, b.before.loop.invariant.1)
+    let b = c in
+    (search_retired _ _ _ _ b.requires.1.1 _ _ _ b.loop-i.invariant.0 (omega arith) (entry c.before.before.before.before.before) c.if-file-manifest-ne0.true, b.loop-i.invariant.1)
 
-find-requires : tie.Need-find-requires invariant-loop decreases-loop
+find-requires : tie.Need-find-segment-requires invariant-loop-i decreases-loop-i
 find-requires c κs =
-    let b = c.before.before.before.before.before.before in
-    let s = s b in
-    let m = s.pre.1.1 in
-    let a = entry b in
-    (omega (arith, a.numbered.room, a.numbered.length_is), omega (arith, b.before.loop.invariant.1, s.pre.0.1))
+    let b = c in
+    let s = b in
+    let m = s.requires.1.1 in
+    let a = entry c.before.before.before.before.before.before in
+    (omega (arith, a.numbered.room, a.numbered.length_is), omega (arith, b.loop-i.invariant.1, s.requires.0.1))
 
-loop-again-3 : tie.Need-loop-preserved-3 invariant-loop decreases-loop
+loop-again-3 : tie.Need-loop-i-preserved invariant-loop-i decreases-loop-i
 loop-again-3 c =
-    let l = c.before.before.before.before in
-    let e1 = l.before.before.before.before in
-    let b = e1.before.before.before in
-    let m = (s b).requires.1.1 in
-    let a = entry b in (
-      search_on _ _ _ _ m _ _ _ b.before.loop.invariant.0 (omega arith) a l.before.before.if2.false
-          e1.if1.false (sym l.find.ensures ∙ c.enum_told.given.1),
-      omega (arith, b.before.loop.invariant.1),
+    let l = c in
+    let e1 = l in
+    let b = e1 in
+    let m = b.requires.1.1 in
+    let a = entry c.before.before.before.before.before.before.before.before.before.before in (
+      search_on _ _ _ _ m _ _ _ b.loop-i.invariant.0 (omega arith) a l.if-file-manifest-ne0.false
+          e1.if-file-p-ne-KIND.false (sym l.find-segment.ensures ∙ c.in-Nowhere.is),
+      omega (arith, b.loop-i.invariant.1),
     )
 
-returns : tie.Need-returns invariant-loop decreases-loop
+returns : tie.Need-returns-in-Refused invariant-loop-i decreases-loop-i
 returns c =
-    let l = c.before.before.before.before.before in
-    let e1 = l.before.before.before.before in
-    let b = e1.before.before.before in
-    search_stop _ _ _ _ (s b).requires.1.1 _ _ _ b.before.loop.invariant.0 (omega arith) (entry b) l.before.before.if2.false
-    e1.if1.false _ (sym l.find.ensures ∙ c.before.segment.given.1)
+    let l = c in
+    let e1 = l in
+    let b = e1 in
+    search_stop _ _ _ _ b.requires.1.1 _ _ _ b.loop-i.invariant.0 (omega arith) (entry c.before.before.before.before.before.before.before.before.before.before) l.if-file-manifest-ne0.false
+    e1.if-file-p-ne-KIND.false _ (sym l.find-segment.ensures ∙ c.in-Refused.is)
     (λ q. let z : ◌≡◌ {A = ℕ} 0 1 = cc in omega arith)
 
-returns-2 : tie.Need-returns-2 invariant-loop decreases-loop
+returns-2 : tie.Need-returns-in-In invariant-loop-i decreases-loop-i
 returns-2 c =
-    let l = c.before.before.before.before.before in
-    let e1 = l.before.before.before.before in
-    let b = e1.before.before.before in
-    search_stop _ _ _ _ (s b).requires.1.1 _ _ _ b.before.loop.invariant.0 (omega arith) (entry b) l.before.before.if2.false
-    e1.if1.false _ (sym l.find.ensures ∙ c.before.segment2.given.1)
+    let l = c in
+    let e1 = l in
+    let b = e1 in
+    search_stop _ _ _ _ b.requires.1.1 _ _ _ b.loop-i.invariant.0 (omega arith) (entry c.before.before.before.before.before.before.before.before.before.before) l.if-file-manifest-ne0.false
+    e1.if-file-p-ne-KIND.false _ (sym l.find-segment.ensures ∙ c.in-In.is)
     (λ q. let z : ◌≡◌ {A = ℕ} 0 1 = cc in omega arith)
 
-returns-3 : tie.Need-returns-3 invariant-loop decreases-loop
-returns-3 c = search_last _ _ _ _ c.before.before.before.before.before.requires.1.1 _ c.before.loop.invariant.0 (omega arith)
+returns-3 : tie.Need-returns invariant-loop-i decreases-loop-i
+returns-3 c = search_last _ _ _ _ c.requires.1.1 _ c.loop-i.invariant.0 (omega arith)
 
 pub find_down_spec : {M : Type 1} → statement M
 find_down_spec =
     tie.close
     (tie.spec
-    invariant-loop decreases-loop loop-holds (search rules) (λ c. omega (arith, entry c))
-    (λ c. omega (arith, entry c.before)) add-if1 shared-slice-read-if1 (search rules) loop-again add-if2
-    mul-if2 add-if2-2 add-if2-3 shared-slice-read-if2 (search rules) loop-again-2 find-requires (search rules)
-    (search rules) loop-again-3 (search rules) (search rules) returns (search rules) (search rules) returns-2
-    (search rules) returns-3)
+    invariant-loop-i decreases-loop-i loop-holds (search rules) (λ c. omega (arith, entry c)) (λ c. omega (arith, entry c.before)) add-if1 shared-slice-read-if1 (search rules) loop-again add-if2 mul-if2 add-if2-2 add-if2-3 shared-slice-read-if2 (search rules) loop-again-2 find-requires (search rules) (search rules) loop-again-3 (search rules) (search rules) returns (search rules) (search rules) returns-2 (search rules) returns-3)

@@ -10,30 +10,28 @@ use borrow.Author.Rules.{rules}
 use Rattle.lookup.proofs.payload.part_at.Statement.{statement}
 use Rattle.lookup.proofs.payload.part_at.Tie as tie
 
-returns : tie.Need-returns
-returns c = hands_outside _ _ _ _ _ c.before.before.before.place.given.1 (omega arith) refl
+returns : tie.Need-returns-then-start-file
+returns c = hands_outside _ _ _ _ _ c.in-At.is (omega arith) refl
 
-returns-2 : tie.Need-returns-2
-returns-2 c = hands_outside _ _ _ _ _ c.before.before.before.before.place.given.1 (omega arith) refl
+returns-2 : tie.Need-returns-then-length-file
+returns-2 c = hands_outside _ _ _ _ _ c.in-At.is (omega arith) refl
 
-returns-3 : tie.Need-returns-3
+returns-3 : tie.Need-returns-else-length-file
 returns-3 c =
-    let p = c.before.before.before.before in
-    let v = p.place.given.0 in
-    hands_at _ _ _ v.0 v.1.0 p.place.given.1 (omega arith)
+    let p = c in
+    hands_at _ _ _ p.in-At.start p.in-At.length p.in-At.is (omega arith)
     (record {
-      bytes = ap (λ (k : ℕ). take k (drop v.0 p.before.before.args.file.now))
-          (add-sub_cancel_left v.0 v.1.0);
+      bytes = ap (λ (k : ℕ). take k (drop p.in-At.start p.args.file.now))
+          (add-sub_cancel_left p.in-At.start p.in-At.length);
       block = refl;
       place = add_comm _ _;
     })
 
-returns-4 : tie.Need-returns-4
-returns-4 c = hands_nothing _ _ _ _ c.before.enum_told.given.1 refl
+returns-4 : tie.Need-returns-in-Refused
+returns-4 c = hands_nothing _ _ _ _ c.in-Refused.is refl
 
 pub part_at_spec : {M : Type 1} → statement M
 part_at_spec =
     tie.close
     (tie.spec
-    (search rules) (search rules) returns (search rules) (search rules) returns-2 (search rules) (search rules)
-    (search rules) (search rules) (search rules) (search rules) returns-3 returns-4)
+    (search rules) (search rules) returns (search rules) (search rules) returns-2 (search rules) (search rules) (search rules) (search rules) (search rules) (search rules) returns-3 returns-4)

@@ -98,7 +98,7 @@ module _ {M : Type 1} {𝓤 : Ura M} (𝓛 : Logic 𝓤) (mem : Memory → SProp
   at = (val s ∷ [], (vint w64 n ∷ [], tt))
 
   abbrev Post : Val → SProp 𝓤
-  Post = (walk_of 𝓛 payload.ended stayed (payload.clauses 𝓛 mem run)).post (((κ, tt), (q, tt), tt, (s, (n, tt)), at), tt)
+  Post = (walk_of 𝓛 payload.ended stayed (payload.clauses 𝓛 mem run)).ensures (((κ, tt), (q, tt), tt, (s, (n, tt)), at), tt)
 
   abbrev Own : Fml
   Own = R.own_val s (val s ∷ [])
@@ -111,14 +111,14 @@ module _ {M : Type 1} {𝓤 : Ura M} (𝓛 : Logic 𝓤) (mem : Memory → SProp
   abbrev to-place : (Located 𝓛 mem run).Ghost
   to-place = (((κ, tt), (q, tt), tt, (s, (n, tt)), at), tt)
 
-  asks-place : ent 𝓤 (on_entry 𝓛 place.signature (κ, tt) (q, tt) (s, (n, tt)) at) ((Located 𝓛 mem run).pre to-place)
+  asks-place : ent 𝓤 (on_entry 𝓛 place.signature (κ, tt) (q, tt) (s, (n, tt)) at) ((Located 𝓛 mem run).requires to-place)
   asks-place = qed 𝓛 ((‵ (flft κ q) ⊛ ‵ ftrue) ∷ ‵ (owns (R ∷ u64 ∷ []) (s, (n, tt)) at) ∷ []) ∵ join ! $ frame ! $ done !
 
-  goes-place : ent 𝓤 (⋆ 𝓛 ((‵ (flft κ q) ⊛ ‵ ftrue) ∷ ‵ Own ∷ [])) (sep 𝓤 ((Located 𝓛 mem run).pre to-place) (sem 𝓛 Own))
+  goes-place : ent 𝓤 (⋆ 𝓛 ((‵ (flft κ q) ⊛ ‵ ftrue) ∷ ‵ Own ∷ [])) (sep 𝓤 ((Located 𝓛 mem run).requires to-place) (sem 𝓛 Own))
   goes-place =
       qed 𝓛 ((‵ (flft κ q) ⊛ ‵ ftrue) ∷ ‵ Own ∷ []) ∵ move ! (1 ∷ []) $ use1 𝓛 (‵ Own ⊛ ‵ Own) ((shr_slice_copy 𝓛 (named 0) κ u8).twice s (val s ∷ [])) $ split ! $
       nothing ! $ owned ! u64 (Is u64) (uint_Makes 𝓛 w64) n _ (refl, n-fits) $ fjoin ! $ move ! (1 ∷ 0 ∷ []) $ fjoin ! $
-      move ! (2 ∷ 0 ∷ []) $ use2 𝓛 (raw ((Located 𝓛 mem run).pre to-place)) asks-place $ frame ! $ done !
+      move ! (2 ∷ 0 ∷ []) $ use2 𝓛 (raw ((Located 𝓛 mem run).requires to-place)) asks-place $ frame ! $ done !
 
   place-said : (d : PayloadPlace) → ent 𝓤 (ensured 𝓛 place.ended (place.clauses 𝓛 mem run) (κ, tt) (s, (n, tt)) tt d) (fact 𝓤 (d ≡ place_of (part_in s.now n)))
   place-said d = ex_e 𝓤 _ (λ ws. snd∗ 𝓤 (sem 𝓛 (lasts place.ended (κ, tt) (s, (n, tt)) ws)) (fact 𝓤 (d ≡ place_of (part_in s.now n))))
@@ -138,17 +138,17 @@ module _ {M : Type 1} {𝓤 : Ura M} (𝓛 : Logic 𝓤) (mem : Memory → SProp
     abbrev to_part : (Parted 𝓛 mem run).Ghost
     to_part = (((κ, tt), (q, tt), tt, (s, (d, tt)), (val s ∷ [], (u ∷ [], tt))), tt)
 
-    asks-number : ent 𝓤 (on_entry 𝓛 num.signature tt tt (d, tt) (u ∷ [], tt)) ((Numbered 𝓛 mem run).pre to_number)
+    asks-number : ent 𝓤 (on_entry 𝓛 num.signature tt tt (d, tt) (u ∷ [], tt)) ((Numbered 𝓛 mem run).requires to_number)
     asks-number = qed 𝓛 (‵ ftrue ∷ ‵ (owns (P.the_row ∷ []) (d, tt) (u ∷ [], tt)) ∷ []) ∵ join ! $ frame ! $ done !
 
-    asks-part : ent 𝓤 (on_entry 𝓛 part.signature (κ, tt) (q, tt) (s, (d, tt)) (val s ∷ [], (u ∷ [], tt))) ((Parted 𝓛 mem run).pre to_part)
+    asks-part : ent 𝓤 (on_entry 𝓛 part.signature (κ, tt) (q, tt) (s, (d, tt)) (val s ∷ [], (u ∷ [], tt))) ((Parted 𝓛 mem run).requires to_part)
     asks-part = qed 𝓛 ((‵ (flft κ q) ⊛ ‵ ftrue) ∷ ‵ (owns (R ∷ P.the_row ∷ []) (s, (d, tt)) (val s ∷ [], (u ∷ [], tt))) ∷ []) ∵ join ! $ frame ! $ done !
 
-    goes-part : Is P.the_row d (u ∷ []) → ent 𝓤 (⋆ 𝓛 ((‵ (flft κ q) ⊛ ‵ ftrue) ∷ ‵ Own ∷ [])) (sep 𝓤 ((Parted 𝓛 mem run).pre to_part) (sem 𝓛 Own))
+    goes-part : Is P.the_row d (u ∷ []) → ent 𝓤 (⋆ 𝓛 ((‵ (flft κ q) ⊛ ‵ ftrue) ∷ ‵ Own ∷ [])) (sep 𝓤 ((Parted 𝓛 mem run).requires to_part) (sem 𝓛 Own))
     goes-part is =
         qed 𝓛 ((‵ (flft κ q) ⊛ ‵ ftrue) ∷ ‵ Own ∷ []) ∵ move ! (1 ∷ []) $ use1 𝓛 (‵ Own ⊛ ‵ Own) ((shr_slice_copy 𝓛 (named 0) κ u8).twice s (val s ∷ [])) $ split ! $
         nothing ! $ owned ! P.the_row (Is P.the_row) place-makes d _ is $ fjoin ! $ move ! (1 ∷ 0 ∷ []) $ fjoin ! $
-        move ! (2 ∷ 0 ∷ []) $ use2 𝓛 (raw ((Parted 𝓛 mem run).pre to_part)) asks-part $ frame ! $ done !
+        move ! (2 ∷ 0 ∷ []) $ use2 𝓛 (raw ((Parted 𝓛 mem run).requires to_part)) asks-part $ frame ! $ done !
 
   abbrev made : ℕ → Bor (List ℕ) → HandedPart
   made m r = record { number = m; part = r }
@@ -169,7 +169,7 @@ module _ {M : Type 1} {𝓤 : Ura M} (𝓛 : Logic 𝓤) (mem : Memory → SProp
         alloc1 ! (λ l₀. alloc1 ! (λ l₁. alloc1 ! (λ l₂. alloc1 ! (λ l₃. alloc1 ! (λ l₄. alloc1 ! (λ l₅. alloc0 ! $ params1 ! $
         pass1 ! (init ! 8 refl ((shr_slice_Lawful 𝓛 (named 0) κ u8).typed s (val s ∷ []) p).0) $ pass1 ! (init ! 6 refl (tt, record { fits = n-fits })) $ pass0 ! $
         -- [room for _5; …; room for _4; …; room for _3; …; _2; …; _1; …; room for _0; …; the token; what the parameters own]
-        move ! (13 ∷ []) $ fsplit ! $ move ! (1 ∷ []) $ drop ! $ move ! (13 ∷ 0 ∷ []) $ use2 𝓛 (raw ((Located 𝓛 mem run).pre to-place) ⊛ ‵ Own) goes-place $ split ! $
+        move ! (13 ∷ []) $ fsplit ! $ move ! (1 ∷ []) $ drop ! $ move ! (13 ∷ 0 ∷ []) $ use2 𝓛 (raw ((Located 𝓛 mem run).requires to-place) ⊛ ‵ Own) goes-place $ split ! $
         calls_at ! fm (Located 𝓛 mem run) known-place to-place (and_then ! (load ! (from ! (stop !)) (look ! 10 refl)) (and_then ! (load ! (from ! (stop !)) (look ! 8 refl)) (no_more !))) (λ u.
         use1 𝓛 (later (some (λ (d : PayloadPlace). ((‵ (flft κ q) ⊛ ‵ ftrue) ⊛ ‵ ((P.the_row).own_val d (u ∷ []))) ⊛ raw (ensured 𝓛 place.ended (place.clauses 𝓛 mem run) (κ, tt) (s, (n, tt)) tt d)))) (id⊢ 𝓤 _) $ await ! tt $ pick ! (λ d.
         split ! $ move ! (1 ∷ []) $ use1 𝓛 (raw (fact 𝓤 (d ≡ place_of (part_in s.now n)))) (place-said d) $ heard ! (d ≡ place_of (part_in s.now n)) (λ at_place. split ! $ move ! (1 ∷ []) $
@@ -177,14 +177,14 @@ module _ {M : Type 1} {𝓤 : Ura M} (𝓛 : Logic 𝓤) (mem : Memory → SProp
         peeks ! P.the_row (Is P.the_row) (shows 𝓛 P.the_row) d (u ∷ []) (λ is.
         land ! (from ! (stop !)) (init ! 7 refl ((EL.lawful P.the_type P'.the_laws 𝓛 tt).typed d _ is).0) $ drop ! $
         -- [the token; what s owns; …]: what the place owns is made anew
-        nothing ! $ nothing ! $ owned ! P.the_row (Is P.the_row) place-makes d _ is $ fjoin ! $ move ! (1 ∷ 0 ∷ []) $ use2 𝓛 (raw ((Numbered 𝓛 mem run).pre (to_number d u))) (asks-number d u) $
+        nothing ! $ nothing ! $ owned ! P.the_row (Is P.the_row) place-makes d _ is $ fjoin ! $ move ! (1 ∷ 0 ∷ []) $ use2 𝓛 (raw ((Numbered 𝓛 mem run).requires (to_number d u))) (asks-number d u) $
         calls_at ! fm (Numbered 𝓛 mem run) known-number (to_number d u) (and_then ! (load ! (from ! (stop !)) (look ! 7 refl)) (no_more !)) (λ v.
         use1 𝓛 (later (some (λ (m : ℕ). (‵ ftrue ⊛ ‵ (u32.own_val m (v ∷ []))) ⊛ raw (ensured 𝓛 num.ended (num.clauses 𝓛 mem run) tt (d, tt) tt m)))) (id⊢ 𝓤 _) $ await ! tt $ pick ! (λ m.
         split ! $ move ! (1 ∷ []) $ use1 𝓛 (raw (fact 𝓤 (m ≡ place_number d))) (number-said d m) $ heard ! (m ≡ place_number d) (λ e. split ! $ drop ! $
         -- [the number's facts; the token; what s owns; room for _5; …; room for _4; …; _3; …; _2; …; _1; …; room for _0; …]
         peeks ! u32 (Is u32) (shows 𝓛 u32) m (v ∷ []) (λ ok.
         land ! (from ! (stop !)) (init ! 5 refl ((uint_Lawful 𝓛 w32).typed m _ ok).0) $ rewrite ! 5 (λ (w : Val). ‵ (fat full_share (ty_int w32) l₄ 0 w)) (ap only ok.0) refl $
-        drop ! $ use2 𝓛 (raw ((Parted 𝓛 mem run).pre (to_part d u)) ⊛ ‵ Own) (goes-part d u is) $ split ! $
+        drop ! $ use2 𝓛 (raw ((Parted 𝓛 mem run).requires (to_part d u)) ⊛ ‵ Own) (goes-part d u is) $ split ! $
         calls_at ! fm (Parted 𝓛 mem run) known-part (to_part d u) (and_then ! (load ! (from ! (stop !)) (look ! 10 refl)) (and_then ! (load ! (from ! (stop !)) (look ! 6 refl)) (no_more !))) (λ u'.
         use1 𝓛 (later (some (λ (r : Bor (List ℕ)). ((‵ (flft κ q) ⊛ ‵ ftrue) ⊛ ‵ (R.own_val r (u' ∷ []))) ⊛ raw (ensured 𝓛 part.ended (part.clauses 𝓛 mem run) (κ, tt) (s, (d, tt)) tt r)))) (id⊢ 𝓤 _) $ await ! tt $ pick ! (λ r.
         split ! $ move ! (1 ∷ []) $ use1 𝓛 (raw (fact 𝓤 (Hands r s d))) (part-said d r) $ heard ! (Hands r s d) (λ h. split ! $ move ! (1 ∷ []) $

@@ -9,19 +9,18 @@ use borrow.Author.Rules.{rules}
 use Rattle.lookup.proofs.place.payload_place.Statement.{statement}
 use Rattle.lookup.proofs.place.payload_place.Tie as tie
 
-find-in-requires : tie.Need-find-in-requires
+find-in-requires : tie.Need-find_in-requires
 find-in-requires c κs =
-    let ow = c.before.before.before.before.before in
-    let w = manifest_at _ _ _ _ _ (sym ow.file-manifest.ensures.0 ∙ c.before.before.found2.given.1) in
+    let ow = c in
+    let w = manifest_at _ _ _ _ _ (sym ow.file_manifest-found.ensures.0 ∙ c.in-At.is) in
     let m = opened_at _ _ _ w.0 _ _ w.1 in
-    (omega arith, (ow.file-manifest.ensures.1 m.within, m))
+    (omega arith, (ow.file_manifest-found.ensures.1 m.within, m))
 
-returns : tie.Need-returns
-returns c = place_refused _ _ _ (sym c.before.before.before.before.file-manifest.ensures.0 ∙ c.before.found.given.1)
+returns : tie.Need-returns-in-Refused
+returns c = place_refused _ _ _ (sym c.file_manifest-found.ensures.0 ∙ c.in-Refused.is)
 
 pub payload_place_spec : {M : Type 1} → statement M
 payload_place_spec =
     tie.close
     (tie.spec
-    (search rules) (search rules) (search rules) (search rules) (search rules) find-in-requires returns
-    (λ c. search rules))
+    (search rules) (search rules) (search rules) (search rules) (search rules) find-in-requires returns (λ c. search rules))

@@ -6,17 +6,17 @@ use borrow.Author.Rules.{rules}
 use Rattle.lookup.proofs.vector.component.Statement.{statement}
 use Rattle.lookup.proofs.vector.component.Tie as tie
 
-component-at-requires : tie.Need-component-at-requires
-component-at-requires c κs = value_room_at _ _ _ c.before.before.before.value-place.ensures _ _ c.before.place2.given.1
+component-at-requires : tie.Need-component_at-value-requires
+component-at-requires c κs = value_room_at _ _ _ c.value_place-place.ensures _ _ c.in-At.is
 
-returns : tie.Need-returns
+returns : tie.Need-returns-in-Refused
 returns c = kind_number _ _
-    (component_not _ _ (lies_not _ _ _ c.before.before.before.value-place.ensures _ c.before.place.given.1)).0
+    (component_not _ _ (lies_not _ _ _ c.value_place-place.ensures _ c.in-Refused.is)).0
 
-returns-2 : tie.Need-returns-2
+returns-2 : tie.Need-returns-in-At
 returns-2 c = kind_number _ _
-    (component_is _ _ _ c.before.before.before.before.value-place.ensures _ _
-    c.before.before.place2.given.1 _ c.component-at.ensures)
+    (component_is _ _ _ c.value_place-place.ensures _ _
+    c.in-At.is _ c.component_at-value.ensures)
 
 pub component_spec : {M : Type 1} → statement M
 component_spec =

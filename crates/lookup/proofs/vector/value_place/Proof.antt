@@ -9,58 +9,47 @@ use borrow.Author.Rules.{rules}
 use Rattle.lookup.proofs.vector.value_place.Statement.{statement}
 use Rattle.lookup.proofs.vector.value_place.Tie as tie
 
-returns : tie.Need-returns
+returns : tie.Need-returns-then-component-dim
 returns c =
-    let p2 = c.before.before in
-    value_past _ _ _ _ _ _ _ _ _ (sym p2.before.before.find.ensures ∙ p2.place2.given.1) _ (omega arith)
+    let p2 = c in
+    value_past _ _ _ _ _ _ _ _ _ (sym p2.find-place.ensures ∙ p2.in-In.is) _ (omega arith)
 
 -- Where the vector is found and has the component: the component lies in the file.
-module _ (w : tie.After-width-of) where
-  abbrev p2 : tie.After-place2
-  p2 = w.before.before.before
-
-  abbrev l : tie.After-find
-  l = p2.before.before
-
-  abbrev s : tie.Start
-  s = l.before.before
-
+module _ (w : tie.After-width_of-width) where
   abbrev row : ℕ
-  row = s.args.component * p2.place2.given.0.1.1.1.0
+  row = w.args.component * w.in-In.count
 
   abbrev index : ℕ
-  index = p2.place2.given.0.1.1.1.1.1.1.0
+  index = w.in-In.index
 
   inside : (row ≤ 4194304) × ((index < 4096)
-      × (p2.place2.given.0.0 + (p2.place2.given.0.1.1.0 + (row + index) * w.width_of_lem.result)
-      + w.width_of_lem.result ≤ length s.args.file.now))
+      × (w.in-In.body + (w.in-In.offset + (row + index) * w.width_of-width.result)
+      + w.width_of-width.result ≤ length w.args.file.now))
   inside =
-      value_inside _ _ _ _ _ _ _ _ _ (sym l.find.ensures ∙ p2.place2.given.1) s.args.component (omega arith) _
-      w.width_of_lem.ensures
+      value_inside _ _ _ _ _ _ _ _ _ (sym w.find-place.ensures ∙ w.in-In.is) w.args.component (omega arith) _
+      w.width_of-width.ensures
 
-mul-t19 : tie.Need-overflow-mul-t19
-mul-t19 c = omega (arith, inside c, (l c).before.shared-slice-known.given 0)
+mul-t19 : tie.Need-overflow_mul-result-in-In
+mul-t19 c = omega (arith, inside c, c.shared_slice_known-1.given 0)
 
-add-t20 : tie.Need-overflow-add-t20
-add-t20 c = omega (arith, inside c, (l c).before.shared-slice-known.given 0)
+add-t20 : tie.Need-overflow_add-result-in-In
+add-t20 c = omega (arith, inside c, c.shared_slice_known-1.given 0)
 
-add-t21 : tie.Need-overflow-add-t21
-add-t21 c = omega (arith, inside c, (l c).before.shared-slice-known.given 0)
+add-t21 : tie.Need-overflow_add-result-in-In-2
+add-t21 c = omega (arith, inside c, c.shared_slice_known-1.given 0)
 
-returns-2 : tie.Need-returns-2
-returns-2 c = value_refused _ _ _ _ (sym c.before.before.before.find.ensures ∙ c.before.place.given.1)
+returns-2 : tie.Need-returns-in-Refused
+returns-2 c = value_refused _ _ _ _ (sym c.find-place.ensures ∙ c.in-Refused.is)
 
-returns-3 : tie.Need-returns-3
-returns-3 c = value_nowhere _ _ _ (sym c.before.before.find.ensures ∙ c.enum_told.given.1)
+returns-3 : tie.Need-returns-in-Nowhere
+returns-3 c = value_nowhere _ _ _ (sym c.find-place.ensures ∙ c.in-Nowhere.is)
 
-returns-4 : tie.Need-returns-4
+returns-4 : tie.Need-returns-else-component-dim
 returns-4 c =
-    value_here _ _ _ _ _ _ _ _ _ (sym (l c).find.ensures ∙ (p2 c).place2.given.1) _ (omega arith) _ c.width_of_lem.ensures
+    value_here _ _ _ _ _ _ _ _ _ (sym c.find-place.ensures ∙ c.in-In.is) _ (omega arith) _ c.width_of-width.ensures
 
 pub value_place_spec : {M : Type 1} → statement M
 value_place_spec =
     tie.close
     (tie.spec
-    (search rules) (search rules) (search rules) (search rules) returns (search rules) (search rules)
-    (λ c. omega (arith, inside c)) (λ c. omega (arith, inside c)) mul-t19 add-t20 add-t21 returns-2 returns-3
-    returns-4)
+    (search rules) (search rules) (search rules) (search rules) returns (search rules) (search rules) (λ c. omega (arith, inside c)) (λ c. omega (arith, inside c)) mul-t19 add-t20 add-t21 returns-2 returns-3 returns-4)

@@ -7,53 +7,51 @@ use borrow.Author.Rules.{rules}
 use Rattle.lookup.proofs.vector.vector.Statement.{statement}
 use Rattle.lookup.proofs.vector.vector.Tie as tie
 
-add-end : tie.Need-overflow-add-end
+add-end : tie.Need-overflow_add-end
 add-end c =
-    let l = c.before.before.before in
+    let l = c in
     omega (
       arith,
-      part_room _ _ _ _ _ _ _ _ _ (sym l.find.ensures ∙ c.before.place2.given.1),
-      l.before.before.shared-slice-known.given 0,
+      part_room _ _ _ _ _ _ _ _ _ (sym l.find-place.ensures ∙ c.in-In.is),
+      l.shared_slice_known-1.given 0,
     )
 
-part-read-vector-end : tie.Need-slice-bounds-read-vector-end
+part-read-vector-end : tie.Need-slice_bounds-read_vector-end
 part-read-vector-end c =
-    let l = c.before.before.before in
+    let l = c in
     omega (
       arith,
-      part_room _ _ _ _ _ _ _ _ _ (sym l.find.ensures ∙ c.before.place2.given.1),
-      l.before.before.shared-slice-known.given 0,
+      part_room _ _ _ _ _ _ _ _ _ (sym l.find-place.ensures ∙ c.in-In.is),
+      l.shared_slice_known-1.given 0,
     )
 
-read-vector-requires : tie.Need-read-vector-requires
+read-vector-requires : tie.Need-read_vector-w-requires
 read-vector-requires c κs =
-    let p2 = c.before.before.before in
-    part_bounds _ _ _ _ _ _ _ _ _ (sym p2.before.before.find.ensures ∙ p2.place2.given.1)
+    let p2 = c in
+    part_bounds _ _ _ _ _ _ _ _ _ (sym p2.find-place.ensures ∙ p2.in-In.is)
 
-returns : tie.Need-returns
-returns c = vector_refused _ _ _ _ (sym c.before.before.before.find.ensures ∙ c.before.place.given.1)
+returns : tie.Need-returns-in-Refused
+returns c = vector_refused _ _ _ _ (sym c.find-place.ensures ∙ c.in-Refused.is)
 
-returns-2 : tie.Need-returns-2
-returns-2 c = vector_nowhere _ _ _ (sym c.before.before.find.ensures ∙ c.enum_told.given.1)
+returns-2 : tie.Need-returns-in-Nowhere
+returns-2 c = vector_nowhere _ _ _ (sym c.find-place.ensures ∙ c.in-Nowhere.is)
 
-returns-3 : tie.Need-returns-3
+returns-3 : tie.Need-returns-in-Refused-w
 returns-3 c =
-    let rv = c.before.before.before.before.before in
-    let p2 = rv.before.before.before.before in
-    vector_short _ _ _ _ _ _ _ _ _ (sym p2.before.before.find.ensures ∙ p2.place2.given.1) _ _ _ rv.read_vector.ensures.1
-    (sym rv.read_vector.ensures.0 ∙ c.before.w.given.1)
+    let rv = c in
+    let p2 = rv in
+    vector_short _ _ _ _ _ _ _ _ _ (sym p2.find-place.ensures ∙ p2.in-In.is) _ _ _ rv.read_vector-w.ensures.1
+    (sym rv.read_vector-w.ensures.0 ∙ c.in-Refused-w.is)
 
-returns-4 : tie.Need-returns-4
+returns-4 : tie.Need-returns-in-Length
 returns-4 c =
-    let rv = c.before.before.before.before.before in
-    let p2 = rv.before.before.before.before in
-    vector_read _ _ _ _ _ _ _ _ _ (sym p2.before.before.find.ensures ∙ p2.place2.given.1) _ _ _ rv.read_vector.ensures.1
-    (sym rv.read_vector.ensures.0 ∙ c.before.w2.given.1)
+    let rv = c in
+    let p2 = rv in
+    vector_read _ _ _ _ _ _ _ _ _ (sym p2.find-place.ensures ∙ p2.in-In.is) _ _ _ rv.read_vector-w.ensures.1
+    (sym rv.read_vector-w.ensures.0 ∙ c.in-Length.is)
 
 pub vector_spec : {M : Type 1} → statement M
 vector_spec =
     tie.close
     (tie.spec
-    (search rules) (search rules) (search rules) (search rules) add-end (search rules) (search rules)
-    part-read-vector-end read-vector-requires (search rules) (search rules) returns returns-2 (search rules)
-    returns-3 (search rules) returns-4)
+    (search rules) (search rules) (search rules) (search rules) add-end (search rules) (search rules) part-read-vector-end read-vector-requires (search rules) (search rules) returns returns-2 (search rules) returns-3 (search rules) returns-4)
