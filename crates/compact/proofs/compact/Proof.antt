@@ -9,19 +9,18 @@ use borrow.Author.Rules.{rules}
 use Rattle.compact.proofs.compact.Statement.{statement}
 use Rattle.compact.proofs.compact.Tie as tie
 
-compact-from-requires : tie.Need-compact-from-requires
+compact-from-requires : tie.Need-compact_from-requires
 compact-from-requires c κs =
-    let o = c.before.before.before.before.before.before in
-    let w = manifest_at _ _ _ _ _ (sym o.file-manifest.ensures.0 ∙ c.before.before.before.found2.given.1) in
+    let o = c in
+    let w = manifest_at _ _ _ _ _ (sym o.file_manifest-found.ensures.0 ∙ c.in-At.is) in
     let m = opened_at _ _ _ w.0 _ _ w.1 in
-    (omega arith, (o.file-manifest.ensures.1 m.within, m))
+    (omega arith, (o.file_manifest-found.ensures.1 m.within, m))
 
-returns : tie.Need-returns
-returns c = compact_refused _ _ _ (sym c.before.before.before.before.file-manifest.ensures.0 ∙ c.before.found.given.1)
+returns : tie.Need-returns-in-Refused
+returns c = compact_refused _ _ _ (sym c.file_manifest-found.ensures.0 ∙ c.in-Refused.is)
 
 pub compact_spec : {M : Type 1} → statement M
 compact_spec =
     tie.close
     (tie.spec
-    (search rules) (search rules) (search rules) (search rules) (search rules) compact-from-requires returns (search rules)
-    (λ c. c.before.before.before.compact-from.ensures))
+    (search rules) (search rules) (search rules) (search rules) (search rules) compact-from-requires returns (search rules) (λ c. c.compact_from.ensures))

@@ -21,104 +21,92 @@ use Rattle.compact.proofs.compact_from.Statement.{statement}
 use Rattle.compact.proofs.compact_from.Tie as tie
 
 -- Where the segments are selected.
-module _ (k : tie.After-known-told) where
-  abbrev g : tie.After-select
-  g = k.before.before.before.before.before
-
-  abbrev s : tie.Start
-  s = g.before.before.before.before.before
-
+module _ (k : tie.In-Of) where
   abbrev n : ℕ
-  n = k.before.selected.given.0.0
+  n = k.in-Of.n
 
   abbrev at : ℕ
-  at = k.before.selected.given.0.1.0
+  at = k.in-Of.at
 
-  bytes : Bytes s.args.file.now
-  bytes i = omega (arith, g.before.before.before.before.shared-slice-known.given i)
+  bytes : Bytes k.args.file.now
+  bytes i = omega (arith, k.shared_slice_known-1.given i)
 
-  choice : Chosen s.pre.1.1.found n at
-  choice = chosen _ _ _ s.pre.1.1 _ _ (sym g.select.ensures.0 ∙ k.before.selected.given.1)
+  choice : Chosen k.requires.1.1.found n at
+  choice = chosen _ _ _ k.requires.1.1 _ _ (sym k.select-selected.ensures.0 ∙ k.in-Of.is)
 
-  link : Numbered s.args.file.now s.args.manifest (length s.pre.1.1.found.before) s.pre.1.1.found.link
-  link = manifest_numbered _ _ _ _ bytes s.pre.1.0 s.pre.0 s.pre.1.1
+  link : Numbered k.args.file.now k.args.manifest (length k.requires.1.1.found.before) k.requires.1.1.found.link
+  link = manifest_numbered _ _ _ _ bytes k.requires.1.0 k.requires.0 k.requires.1.1
 
-  small : (n ≤ 1024) × ((at ≤ 16777216) × (length (fresh_file s.pre.1.1.found) ≤ 16777216))
-  small = fresh_small _ _ _ s.pre.1.1 _ _ choice bytes _ link
+  small : (n ≤ 1024) × ((at ≤ 16777216) × (length (fresh_file k.requires.1.1.found) ≤ 16777216))
+  small = fresh_small _ _ _ k.requires.1.1 _ _ choice bytes _ link
 
-  offsets_are : take n g.select.last.1.0 ≡ offsets_of (copied s.pre.1.1.found)
-  offsets_are = chosen_offsets _ _ _ s.pre.1.1 _ _ choice _ g.select.ensures.1
+  offsets_are : take n k.select-selected.new.offsets ≡ offsets_of (copied k.requires.1.1.found)
+  offsets_are = chosen_offsets _ _ _ k.requires.1.1 _ _ choice _ k.select-selected.ensures.1
 
-  count_is : length (take n g.select.last.1.0) ≡ n
-  count_is = ap length offsets_are ∙ length-map (copied s.pre.1.1.found) (λ (l : Link). l.offset) ∙ sym choice.count_is
+  count_is : length (take n k.select-selected.new.offsets) ≡ n
+  count_is = ap length offsets_are ∙ length-map (copied k.requires.1.1.found) (λ (l : Link). l.offset) ∙ sym choice.count_is
 
 -- Where the fresh file's end is known.
-end-new : (r : tie.After-round-up2) → at r.before.before + 64 + r.round-up2.result ≡ length (fresh_file (s r.before.before).pre.1.1.found)
+end-new : (r : tie.After-round_up-in-Of) → at r.before.before + 64 + r.round_up-in-Of.result ≡ length (fresh_file r.requires.1.1.found)
 end-new r =
-    let k = r.before.before in
-    fresh_ends _ _ _ (s k).requires.1.1 _ _ (choice k) (bytes k) _ _ r.before.round_up.ensures r.round-up2.ensures
+    let k = r in
+    fresh_ends _ _ _ k.requires.1.1 _ _ (choice r.before.before) (bytes r.before.before) _ _ r.round_up.ensures r.round_up-in-Of.ensures
 
-add-round-up-2 : tie.Need-overflow-add-round-up-2
+add-round-up-2 : tie.Need-overflow_add-round_up
 add-round-up-2 c = omega (arith, small c.before, c.round_up.ensures, round64_lt (8 + 48 * n c.before))
 
-round-up-requires-2 : tie.Need-round-up-requires-2
+round-up-requires-2 : tie.Need-round_up-requires-in-Of
 round-up-requires-2 c κs = omega (arith, small c.before, c.round_up.ensures, round64_lt (8 + 48 * n c.before))
 
-returns : tie.Need-returns
+returns : tie.Need-returns-then-end-buf
 returns c =
-    let k = c.before.before.before in
-    compact_short _ _ _ (s k).requires.1.1 _ _ (choice k) (bytes k) _ _ (end-new c.before) c.if1.true
+    let k = c in
+    compact_short _ _ _ k.requires.1.1 _ _ (choice c.before.before.before) (bytes c.before.before.before) _ _ (end-new c.before) c.if-end-buf.true
 
-u64-at-requires : tie.Need-u64-at-requires
+u64-at-requires : tie.Need-u64_at-id-requires
 u64-at-requires c κs = omega (arith, (link c.before.before.before).room)
 
-u64-at-requires-2 : tie.Need-u64-at-requires-2
+u64-at-requires-2 : tie.Need-u64_at-timestamp-requires
 u64-at-requires-2 c κs = omega (arith, (link c.before.before.before.before).room)
 
-slice-relend-prefix-put-file : tie.Need-slice-relend-prefix-put-file
+slice-relend-prefix-put-file : tie.Need-slice_bounds-put_file-end
 slice-relend-prefix-put-file c =
-    let k = c.before.before.before.before.before.before in
-    omega (arith, small k, (g k).select.auto.1.0, (s k).requires.0)
+    let k = c in
+    omega (arith, small c.before.before.before.before.before.before, k.select-selected.auto.offsets, k.requires.0)
 
-slice-aggregate-put-file : tie.Need-slice-aggregate-put-file
+slice-aggregate-put-file : tie.Need-slice_bounds-put_file-end-in-Of
 slice-aggregate-put-file c = sym (count_is c.before.before.before.before.before.before.before)
 
-put-file-requires : tie.Need-put-file-requires
+put-file-requires : tie.Need-put_file-requires
 put-file-requires c κs =
-    let r = c.before.before.before.before.before in
-    let k = r.before.before in
-    let w = (s k).requires.1.1 in
-    let st = fresh_standing _ _ (bytes k) w.opens (choice k).all_whole _ (offsets_are k) in
-    let en = fresh_end _ _ (bytes k) w.opens (choice k).all_whole _ (offsets_are k) in
-    let pl : round64 (payload_length (length (take (n k) (g k).select.new.1.0))) ≡ round64 (payload_length (n k)) =
-    ap (λ (j : ℕ). round64 (payload_length j)) (count_is k) in
-    let pr = payload_round (n k) _ _ r.before.round_up.ensures r.round-up2.ensures in (
-      (omega (arith, count_is k, small k), st),
-      (((choice k).at_is ∙ sym en, (small k).1.0), omega (arith, pl, pr)),
+    let r = c in
+    let k = r in
+    let w = k.requires.1.1 in
+    let st = fresh_standing _ _ (bytes c.before.before.before.before.before.before.before) w.opens (choice c.before.before.before.before.before.before.before).all_whole _ (offsets_are c.before.before.before.before.before.before.before) in
+    let en = fresh_end _ _ (bytes c.before.before.before.before.before.before.before) w.opens (choice c.before.before.before.before.before.before.before).all_whole _ (offsets_are c.before.before.before.before.before.before.before) in
+    let pl : round64 (payload_length (length (take (n c.before.before.before.before.before.before.before) k.select-selected.new.offsets))) ≡ round64 (payload_length (n c.before.before.before.before.before.before.before)) =
+    ap (λ (j : ℕ). round64 (payload_length j)) (count_is c.before.before.before.before.before.before.before) in
+    let pr = payload_round (n c.before.before.before.before.before.before.before) _ _ r.round_up.ensures r.round_up-in-Of.ensures in (
+      (omega (arith, count_is c.before.before.before.before.before.before.before, small c.before.before.before.before.before.before.before), st),
+      (((choice c.before.before.before.before.before.before.before).at_is ∙ sym en, (small c.before.before.before.before.before.before.before).1.0), omega (arith, pl, pr)),
     )
 
-returns-2 : tie.Need-returns-2
+returns-2 : tie.Need-returns-in-Damaged
 returns-2 c =
-    let g = c.before.before.before.before in
-    compact_damaged _ _ _ g.before.before.before.before.before.requires.1.1 _ (sym g.select.ensures.0 ∙ c.enum_told.given.1)
+    let g = c in
+    compact_damaged _ _ _ g.requires.1.1 _ (sym g.select-selected.ensures.0 ∙ c.in-Damaged.is)
 
-returns-3 : tie.Need-returns-3
+returns-3 : tie.Need-returns-else-end-buf
 returns-3 c =
-    let p = c.before.before.before.before in
-    let u = p.before.before.before in
-    let r = u.before.before.before in
-    let k = r.before.before in
-    compact_done _ _ _ (s k).requires.1.1 _ _ (choice k) (bytes k) _ (link k) _ _ _ _ _ _ (end-new r) (omega arith) u.before.u64-at.ensures u.u64-at2.ensures
-    (offsets_are k) p.put-file.ensures
+    let p = c in
+    let u = p in
+    let r = u in
+    let k = r in
+    compact_done _ _ _ k.requires.1.1 _ _ (choice c.before.before.before.before.before.before.before.before.before.before.before.before) (bytes c.before.before.before.before.before.before.before.before.before.before.before.before) _ (link c.before.before.before.before.before.before.before.before.before.before.before.before) _ _ _ _ _ _ (end-new c.before.before.before.before.before.before.before.before.before.before) (omega arith) u.u64_at-id.ensures u.u64_at-timestamp.ensures
+    (offsets_are c.before.before.before.before.before.before.before.before.before.before.before.before) p.put_file.ensures
 
 pub compact_from_spec : {M : Type 1} → statement M
 compact_from_spec =
     tie.close
     (tie.spec
-    (λ c κs. c.before.before.before.before.requires) (search rules) (search rules)
-    (λ c. omega (arith, small c)) (λ c. omega (arith, small c)) (λ c. omega (arith, small c)) (λ c κs. omega (arith, small c))
-    add-round-up-2 round-up-requires-2 (λ c. omega (arith, end-new c, small c.before.before))
-    (search rules) returns
-    (λ c. omega (arith, (link c.before.before.before).room))
-    u64-at-requires (λ c. omega (arith, (link c.before.before.before.before).room))
-    u64-at-requires-2 slice-relend-prefix-put-file slice-aggregate-put-file put-file-requires (search rules) returns-2 (search rules) (search rules) returns-3)
+    (λ c κs. c.requires) (search rules) (search rules) (λ c. omega (arith, small c)) (λ c. omega (arith, small c)) (λ c. omega (arith, small c)) (λ c κs. omega (arith, small c)) add-round-up-2 round-up-requires-2 (λ c. omega (arith, end-new c, small c.before.before)) (search rules) returns (λ c. omega (arith, (link c.before.before.before).room)) u64-at-requires (λ c. omega (arith, (link c.before.before.before.before).room)) u64-at-requires-2 slice-relend-prefix-put-file slice-aggregate-put-file put-file-requires (search rules) returns-2 (search rules) (search rules) returns-3)

@@ -177,7 +177,7 @@ put-manifest-requires c κs =
         (omega (arith, pl, pr, p.put_bodies.auto.buf), omega arith),
         written_inside s.args.buf.now s.args.offsets.now s.args.batch.now s.args.start
             s.args.kept s.args.first s.args.last
-            s.requires.1.0 s.requires.0.0 s.args.timestamp s.fits.timestamp.fits p.next_id-next.result (m c.before.before.before.before.before.before.before.before.before.before.before.before.before.before.before.before.before) p.next_id-next.ensures
+            s.requires.1.0 s.requires.0.0 s.args.timestamp s.ranges.timestamp.fits p.next_id-next.result (m c.before.before.before.before.before.before.before.before.before.before.before.before.before.before.before.before.before) p.next_id-next.ensures
             (count_is s.args.batch.now (m c.before.before.before.before.before.before.before.before.before.before.before.before.before.before.before.before.before) p.u32_at-m.ensures) (ids-fit c.before.before.before.before.before) p.bodies_end-at.result p.bodies_end-at.ensures
             (omega arith) (omega arith) (omega (arith, at_most c.before.before.before.before.before, s.requires.0.1.0))
             p.put_bodies.new.buf p.put_bodies.new.offsets p.put_bodies.ensures.0 p.put_bodies.ensures.1,
@@ -193,7 +193,7 @@ returns-5 c =
     commit_done _ _ _ _ _ (omega (arith, at_most c.before.before.before.before.before.before.before.before, count-new c.before.before.before.before.before.before.before.before.before.before.before.before.before.before.before.before.before.before.before.before)) (id-enough c.before.before.before.before.before.before.before.before.before.before.before.before.before.before.before.before.before) (omega (arith, e)) (omega (arith, e)) _ _ _ _ e
     (ap (λ (k : ℕ). k + m c.before.before.before.before.before.before.before.before.before.before.before.before.before.before.before.before.before.before.before.before) p.next_id-next.ensures ∙ id-new c.before.before.before.before.before.before.before.before.before.before.before.before.before.before.before.before.before.before.before.before) (count-new c.before.before.before.before.before.before.before.before.before.before.before.before.before.before.before.before.before.before.before.before)
     (written_all s.args.buf.now s.args.offsets.now s.args.batch.now s.args.start s.args.kept s.args.first s.args.last
-    s.requires.1.0 s.requires.0.0 s.args.timestamp s.fits.timestamp.fits p.next_id-next.result (m c.before.before.before.before.before.before.before.before.before.before.before.before.before.before.before.before.before.before.before.before) p.next_id-next.ensures
+    s.requires.1.0 s.requires.0.0 s.args.timestamp s.ranges.timestamp.fits p.next_id-next.result (m c.before.before.before.before.before.before.before.before.before.before.before.before.before.before.before.before.before.before.before.before) p.next_id-next.ensures
     (count_is s.args.batch.now (m c.before.before.before.before.before.before.before.before.before.before.before.before.before.before.before.before.before.before.before.before) p.u32_at-m.ensures) (ids-fit c.before.before.before.before.before.before.before.before) p.bodies_end-at.result p.bodies_end-at.ensures
     (omega arith) (omega arith) (omega (arith, at_most c.before.before.before.before.before.before.before.before, s.requires.0.1.0))
     p.put_bodies.new.buf p.put_bodies.new.offsets p.put_bodies.ensures.0 p.put_bodies.ensures.1

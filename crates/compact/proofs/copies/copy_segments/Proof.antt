@@ -13,72 +13,63 @@ use borrow.Author.Rules.{rules}
 use Rattle.compact.proofs.copies.copy_segments.Statement.{statement}
 use Rattle.compact.proofs.copies.copy_segments.Tie as tie
 
-abbrev invariant-loop : tie.invariant-loop
-invariant-loop buf₀ file offsets₀ at₀ i₀ buf offsets at i = CopyAt file buf₀ buf offsets₀ offsets at i
+abbrev invariant-loop-i : tie.invariant-loop-i
+invariant-loop-i buf₀ file offsets₀ at₀ i₀ buf offsets at i = CopyAt file buf₀ buf offsets₀ offsets at i
 
-abbrev decreases-loop : tie.decreases-loop
-decreases-loop buf₀ file offsets₀ at₀ i₀ buf offsets at i = length offsets₀ - i
+abbrev decreases-loop-i : tie.decreases-loop-i
+decreases-loop-i buf₀ file offsets₀ at₀ i₀ buf offsets at i = length offsets₀ - i
 
 -- In the loop: the segment lies in the file, and the buffer has room for it.
-module _ (b : tie.In-loop invariant-loop decreases-loop) where
-  abbrev l : tie.At-loop invariant-loop decreases-loop
-  l = b.before
+module _ (b : tie.In-loop-i invariant-loop-i decreases-loop-i) where
+  more : b.loop-i.i < length b.args.offsets.now
+  more = omega (arith, b.loop-i.invariant.many)
 
-  abbrev s : tie.Start invariant-loop decreases-loop
-  s = l.before.before.before.before
+  inside : get_or b.loop-i.offsets b.loop-i.i 0 + size_in b.args.file.now (get_or b.loop-i.offsets b.loop-i.i 0) ≤ length b.args.file.now
+  inside = copy_inside _ _ _ _ _ _ _ b.loop-i.invariant more b.requires.0 b.requires.1
 
-  more : l.loop.i < length s.args.offsets.now
-  more = omega (arith, l.loop.inv.many)
-
-  inside : get_or l.loop.offsets l.loop.i 0 + size_in s.args.file.now (get_or l.loop.offsets l.loop.i 0) ≤ length s.args.file.now
-  inside = copy_inside _ _ _ _ _ _ _ l.loop.inv more s.pre.0 s.pre.1
-
-  room : l.loop.at + size_in s.args.file.now (get_or l.loop.offsets l.loop.i 0) ≤ length l.loop.buf
-  room = copy_room _ _ _ _ _ _ _ l.loop.inv more s.pre.0 s.pre.1
+  room : b.loop-i.at + size_in b.args.file.now (get_or b.loop-i.offsets b.loop-i.i 0) ≤ length b.loop-i.buf
+  room = copy_room _ _ _ _ _ _ _ b.loop-i.invariant more b.requires.0 b.requires.1
 
 -- Where its size is known.
-size_is : (r : tie.After-round-up invariant-loop decreases-loop) → 64 + r.round_up.result
-    ≡ size_in (s r.before.before.before).args.file.now (get_or (l r.before.before.before).loop.offsets (l r.before.before.before).loop.i 0)
-size_is r = ap (λ n. 64 + n) (r.round_up.ensures ∙ ap round64 r.before.u64-at.ensures)
+size_is : (r : tie.After-round_up-size invariant-loop-i decreases-loop-i) → 64 + r.round_up-size.result
+    ≡ size_in r.args.file.now (get_or r.loop-i.offsets r.loop-i.i 0)
+size_is r = ap (λ n. 64 + n) (r.round_up-size.ensures ∙ ap round64 r.u64_at-length.ensures)
 
-loop-holds : tie.Need-loop-init invariant-loop decreases-loop
+loop-holds : tie.Need-loop-i-init invariant-loop-i decreases-loop-i
 loop-holds c = copy_first _ _ _
 
-u64-at-requires : tie.Need-u64-at-requires invariant-loop decreases-loop
+u64-at-requires : tie.Need-u64_at-length-requires invariant-loop-i decreases-loop-i
 u64-at-requires c κs = omega (arith, inside c.before)
 
-round-up-requires : tie.Need-round-up-requires invariant-loop decreases-loop
+round-up-requires : tie.Need-round_up-size-requires invariant-loop-i decreases-loop-i
 round-up-requires c κs =
-    let b = c.before.before in
-    let n = length_at (s b).args.file.now (get_or (l b).loop.offsets (l b).loop.i 0) in
-    omega (arith, inside b, c.u64-at.ensures, round64_ge n)
+    let b = c in
+    let n = length_at b.args.file.now (get_or b.loop-i.offsets b.loop-i.i 0) in
+    omega (arith, inside c.before.before, c.u64_at-length.ensures, round64_ge n)
 
-copy-at-requires : tie.Need-copy-at-requires invariant-loop decreases-loop
+copy-at-requires : tie.Need-copy_at-requires invariant-loop-i decreases-loop-i
 copy-at-requires c κs =
-    let r = c.before in
-    let b = r.before.before.before in
-    (omega (arith, room b, size_is r), omega (arith, inside b, size_is r))
+    let r = c in
+    let b = r in
+    (omega (arith, room c.before.before.before.before, size_is c.before), omega (arith, inside c.before.before.before.before, size_is c.before))
 
-add_at : tie.Need-overflow-add-at invariant-loop decreases-loop
+add_at : tie.Need-overflow_add-at invariant-loop-i decreases-loop-i
 add_at c =
-    let r = c.before.before.before.before in
-    omega (arith, room r.before.before.before, size_is r)
+    let r = c in
+    omega (arith, room c.before.before.before.before.before.before.before, size_is c.before.before.before.before)
 
-loop-again : tie.Need-loop-preserved invariant-loop decreases-loop
+loop-again : tie.Need-loop-i-preserved invariant-loop-i decreases-loop-i
 loop-again c =
-    let k = c.before.before in
-    let r = k.before.before in
-    let b = r.before.before.before in
-    copy_next _ _ _ _ _ _ _ (l b).loop.invariant (more b) (s b).requires.0 (s b).requires.1 _ _ (size_is r) k.copy_at.ensures
+    let k = c in
+    let r = k in
+    let b = r in
+    copy_next _ _ _ _ _ _ _ b.loop-i.invariant (more c.before.before.before.before.before.before.before) b.requires.0 b.requires.1 _ _ (size_is c.before.before.before.before) k.copy_at.ensures
 
-returns : tie.Need-returns invariant-loop decreases-loop
-returns c = copy_last _ _ _ _ _ _ _ c.before.loop.invariant (omega (arith, c.before.loop.invariant.many))
+returns : tie.Need-returns invariant-loop-i decreases-loop-i
+returns c = copy_last _ _ _ _ _ _ _ c.loop-i.invariant (omega (arith, c.loop-i.invariant.many))
 
 pub copy_segments_spec : {M : Type 1} → statement M
 copy_segments_spec =
     tie.close
     (tie.spec
-    invariant-loop decreases-loop loop-holds (search rules) (search rules) (λ c. omega (arith, inside c.before))
-    u64-at-requires round-up-requires (λ c. omega (arith, inside c.before.before.before, size_is c)) copy-at-requires
-    (search rules) (search rules) add_at (search rules) (search rules) loop-again (search rules)
-    (search rules) returns)
+    invariant-loop-i decreases-loop-i loop-holds (search rules) (search rules) (λ c. omega (arith, inside c.before)) u64-at-requires round-up-requires (λ c. omega (arith, inside c.before.before.before, size_is c)) copy-at-requires (search rules) (search rules) add_at (search rules) (search rules) loop-again (search rules) (search rules) returns)

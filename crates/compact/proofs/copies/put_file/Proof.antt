@@ -29,139 +29,122 @@ use Rattle.compact.proofs.copies.put_file.Statement.{statement}
 use Rattle.compact.proofs.copies.put_file.Tie as tie
 
 -- Where the payload is to be written.
-module _ (t : tie.After-states) where
-  abbrev s : tie.Start
-  s = t.before.before.before.before.before.before
-
+module _ (t : tie.After-states-1) where
   abbrev n : ℕ
-  n = length s.args.offsets.now
+  n = length t.args.offsets.now
 
   states-count : length (take n (replicate {A = ℕ} 1024 0)) ≡ n
-  states-count = length-take-le n (replicate {A = ℕ} 1024 0) (omega (arith, s.pre.0.0, length-replicate {A = ℕ} 1024 0))
+  states-count = length-take-le n (replicate {A = ℕ} 1024 0) (omega (arith, t.requires.0.0, length-replicate {A = ℕ} 1024 0))
 
   fits : (payload_length n ≤ round64 (payload_length n)) × (round64 (payload_length n) ≤ 53312)
-  fits = (round64_ge (payload_length n), (payload_most n s.pre.0.0).1)
+  fits = (round64_ge (payload_length n), (payload_most n t.requires.0.0).1)
 
-slice-aggregate-put-payload : tie.Need-slice-aggregate-put-payload
+slice-aggregate-put-payload : tie.Need-slice_bounds-put_payload-end-2
 slice-aggregate-put-payload c = sym (states-count c)
 
-put-payload-requires : tie.Need-put-payload-requires
+put-payload-requires : tie.Need-put_payload-len-requires
 put-payload-requires c κs =
-    let b = (s c).args.buf.now in
-    let at = (s c).args.at in (
-      (omega (arith, fits c, (s c).requires.1, length-take (length b - (at + 64)) (drop (at + 64) b), length-drop (at + 64) b), omega (arith, states-count c)),
-      (standing_inside (s c).args.file.now (s c).args.offsets.now (s c).requires.0.1, omega (arith, fits c, (s c).requires.1.0.1)),
+    let b = c.args.buf.now in
+    let at = c.args.at in (
+      (omega (arith, fits c, c.requires.1, length-take (length b - (at + 64)) (drop (at + 64) b), length-drop (at + 64) b), omega (arith, states-count c)),
+      (standing_inside c.args.file.now c.args.offsets.now c.requires.0.1, omega (arith, fits c, c.requires.1.0.1)),
     )
 
 -- Where it is written.
-module _ (p : tie.After-put-payload) where
-  abbrev t : tie.After-states
-  t = p.before
-
+module _ (p : tie.After-put_payload-len) where
   abbrev f : List ℕ
-  f = (s t).args.file.now
+  f = p.args.file.now
 
   abbrev os : List ℕ
-  os = (s t).args.offsets.now
+  os = p.args.offsets.now
 
   abbrev b : List ℕ
-  b = (s t).args.buf.now
+  b = p.args.buf.now
 
   abbrev at : ℕ
-  at = (s t).args.at
+  at = p.args.at
 
   abbrev ss : List ℕ
-  ss = take (n t) (replicate 1024 0)
+  ss = take (n p.before) (replicate 1024 0)
 
-  room : at + (64 + payload_length (n t)) ≤ length b
-  room = omega (arith, fits t, (s t).pre.1)
+  room : at + (64 + payload_length (n p.before)) ≤ length b
+  room = omega (arith, fits p.before, p.requires.1)
 
-  laid : put_mid (at + 64) (length b - (at + 64)) b p.put_payload.last.0 ≡ over b (at + 64) (payload_at f os ss at (s t).args.id)
-  laid = back b (at + 64) _ _ p.put_payload.ensures.1 (omega (arith, room, old_length f os (s t).pre.0.1 ss at (s t).args.id))
+  laid : put_mid (at + 64) (length b - (at + 64)) b p.put_payload-len.new.buf ≡ over b (at + 64) (payload_at f os ss at p.args.id)
+  laid = back b (at + 64) _ _ p.put_payload-len.ensures.1 (omega (arith, room, old_length f os p.requires.0.1 ss at p.args.id))
 
 -- Where the segments are copied.
-module _ (k : tie.After-copy-segments) where
-  abbrev p : tie.After-put-payload
-  p = k.before.before.before.before.before
+module _ (k : tie.After-copy_segments) where
+  copied : k.copy_segments.new.buf ≡ over (over (b k.before.before.before.before.before) (at k.before.before.before.before.before + 64) (payload_at (f k.before.before.before.before.before) (os k.before.before.before.before.before) (ss k.before.before.before.before.before) (at k.before.before.before.before.before) k.args.id)) 0 (copies_at (f k.before.before.before.before.before) (os k.before.before.before.before.before))
+  copied = k.copy_segments.ensures.0 ∙ ap (λ (x : List ℕ). over x 0 (copies_at (f k.before.before.before.before.before) (os k.before.before.before.before.before))) (laid k.before.before.before.before.before)
 
-  copied : k.copy-segments.last.0 ≡ over (over (b p) (at p + 64) (payload_at (f p) (os p) (ss p) (at p) (s (t p)).args.id)) 0 (copies_at (f p) (os p))
-  copied = k.copy-segments.ensures.0 ∙ ap (λ (x : List ℕ). over x 0 (copies_at (f p) (os p))) (laid p)
-
-  places_count : length k.copy-segments.last.1.1.0 ≡ n (t p)
-  places_count = ap length k.copy-segments.ensures.1 ∙ places_length (f p) 0 (os p)
+  places_count : length k.copy_segments.new.offsets ≡ n k.before.before.before.before.before.before
+  places_count = ap length k.copy_segments.ensures.1 ∙ places_length (f k.before.before.before.before.before) 0 (os k.before.before.before.before.before)
 
   -- the buffer is as long as it was
-  same_length : length k.copy-segments.last.0 ≡ length (b p)
+  same_length : length k.copy_segments.new.buf ≡ length (b k.before.before.before.before.before)
   same_length =
-      let w = length_over (b p) (at p + 64) (payload_at (f p) (os p) (ss p) (at p) (s (t p)).args.id)
-      (omega (arith, room p, old_length (f p) (os p) (s (t p)).pre.0.1 (ss p) (at p) (s (t p)).args.id)) in
-      ap length copied ∙ length_over _ 0 (copies_at (f p) (os p)) (omega (arith, room p, w, (s (t p)).pre.1)) ∙ w
+      let w = length_over (b k.before.before.before.before.before) (at k.before.before.before.before.before + 64) (payload_at (f k.before.before.before.before.before) (os k.before.before.before.before.before) (ss k.before.before.before.before.before) (at k.before.before.before.before.before) k.args.id)
+      (omega (arith, room k.before.before.before.before.before, old_length (f k.before.before.before.before.before) (os k.before.before.before.before.before) k.requires.0.1 (ss k.before.before.before.before.before) (at k.before.before.before.before.before) k.args.id)) in
+      ap length copied ∙ length_over _ 0 (copies_at (f k.before.before.before.before.before) (os k.before.before.before.before.before)) (omega (arith, room k.before.before.before.before.before, w, k.requires.1)) ∙ w
 
 -- Where the places are written.
-module _ (q : tie.After-put-places) where
-  abbrev k : tie.After-copy-segments
-  k = q.before.before.before.before.before.before.before
-
-  abbrev e : tie.After-put-payload
-  e = p k
-
-  put : q.put-places.last.0
-      ≡ over (over (b e) 0 (copies_at (f e) (os e))) (at e + 64) (payload_at (copies_at (f e) (os e)) (places_at (f e) 0 (os e)) (ss e) (at e) (s (t e)).args.id)
+module _ (q : tie.After-put_places) where
+  put : q.put_places.new.buf
+      ≡ over (over (b q.before.before.before.before.before.before.before.before.before.before.before) 0 (copies_at (f q.before.before.before.before.before.before.before.before.before.before.before) (os q.before.before.before.before.before.before.before.before.before.before.before))) (at q.before.before.before.before.before.before.before.before.before.before.before + 64) (payload_at (copies_at (f q.before.before.before.before.before.before.before.before.before.before.before) (os q.before.before.before.before.before.before.before.before.before.before.before)) (places_at (f q.before.before.before.before.before.before.before.before.before.before.before) 0 (os q.before.before.before.before.before.before.before.before.before.before.before)) (ss q.before.before.before.before.before.before.before.before.before.before.before) (at q.before.before.before.before.before.before.before.before.before.before.before) q.args.id)
   put =
-      places_put (f e) (os e) (s (t e)).pre.0.1 (ss e) (at e) (s (t e)).args.id (b e) (s (t e)).pre.1.0.0 (room e) _ _ _ refl (copied k)
-      (q.put-places.ensures ∙ ap (λ (ps : List ℕ). placed (at e + 64 + 8) ps k.copy-segments.last.0) k.copy-segments.ensures.1)
+      places_put (f q.before.before.before.before.before.before.before.before.before.before.before) (os q.before.before.before.before.before.before.before.before.before.before.before) q.requires.0.1 (ss q.before.before.before.before.before.before.before.before.before.before.before) (at q.before.before.before.before.before.before.before.before.before.before.before) q.args.id (b q.before.before.before.before.before.before.before.before.before.before.before) q.requires.1.0.0 (room q.before.before.before.before.before.before.before.before.before.before.before) _ _ _ refl (copied q.before.before.before.before.before.before)
+      (q.put_places.ensures ∙ ap (λ (ps : List ℕ). placed (at q.before.before.before.before.before.before.before.before.before.before.before + 64 + 8) ps q.copy_segments.new.buf) q.copy_segments.ensures.1)
 
   -- the payload as it is read back, for its hash
-  whole : take (at e + 64 + e.put_payload.result - (at e + 64)) (drop (at e + 64) q.put-places.last.0)
-      ≡ payload_at (copies_at (f e) (os e)) (places_at (f e) 0 (os e)) (ss e) (at e) (s (t e)).args.id
+  whole : take (at q.before.before.before.before.before.before.before.before.before.before.before + 64 + q.put_payload-len.result - (at q.before.before.before.before.before.before.before.before.before.before.before + 64)) (drop (at q.before.before.before.before.before.before.before.before.before.before.before + 64) q.put_places.new.buf)
+      ≡ payload_at (copies_at (f q.before.before.before.before.before.before.before.before.before.before.before) (os q.before.before.before.before.before.before.before.before.before.before.before)) (places_at (f q.before.before.before.before.before.before.before.before.before.before.before) 0 (os q.before.before.before.before.before.before.before.before.before.before.before)) (ss q.before.before.before.before.before.before.before.before.before.before.before) (at q.before.before.before.before.before.before.before.before.before.before.before) q.args.id
   whole =
-      payload_back (f e) (os e) (s (t e)).pre.0.1 (ss e) (at e) (s (t e)).args.id (b e) (s (t e)).pre.1.0.0 (room e) _ put _ e.put_payload.ensures.0
+      payload_back (f q.before.before.before.before.before.before.before.before.before.before.before) (os q.before.before.before.before.before.before.before.before.before.before.before) q.requires.0.1 (ss q.before.before.before.before.before.before.before.before.before.before.before) (at q.before.before.before.before.before.before.before.before.before.before.before) q.args.id (b q.before.before.before.before.before.before.before.before.before.before.before) q.requires.1.0.0 (room q.before.before.before.before.before.before.before.before.before.before.before) _ put _ q.put_payload-len.ensures.0
 
-copy-segments-requires : tie.Need-copy-segments-requires
+copy-segments-requires : tie.Need-copy_segments-requires
 copy-segments-requires c κs =
-    let p = c.before.before.before.before in
-    let n = ap length (laid p)
-    ∙ length_over (b p) (at p + 64) (payload_at (f p) (os p) (ss p) (at p) (s (t p)).args.id)
-    (omega (arith, room p, old_length (f p) (os p) (s (t p)).pre.0.1 (ss p) (at p) (s (t p)).args.id)) in
-    ((s (t p)).pre.0.1, omega (arith, n, room p, (s (t p)).pre.1))
+    let p = c in
+    let n = ap length (laid c.before.before.before.before)
+    ∙ length_over (b c.before.before.before.before) (at c.before.before.before.before + 64) (payload_at (f c.before.before.before.before) (os c.before.before.before.before) (ss c.before.before.before.before) (at c.before.before.before.before) p.args.id)
+    (omega (arith, room c.before.before.before.before, old_length (f c.before.before.before.before) (os c.before.before.before.before) p.requires.0.1 (ss c.before.before.before.before) (at c.before.before.before.before) p.args.id)) in
+    (p.requires.0.1, omega (arith, n, room c.before.before.before.before, p.requires.1))
 
-put-places-requires : tie.Need-put-places-requires
+put-places-requires : tie.Need-put_places-requires
 put-places-requires c κs =
-    let k = c.before.before.before.before.before.before in
-    omega (arith, same_length k, places_count k, room (p k), entries_fit (n (t (p k))))
+    let k = c in
+    omega (arith, same_length c.before.before.before.before.before, places_count c.before.before.before.before.before, room c.before.before.before.before.before.before.before.before.before.before, entries_fit (n c.before.before.before.before.before.before.before.before.before.before.before))
 
-add-end : tie.Need-overflow-add-end
+add-end : tie.Need-overflow_add-end
 add-end c =
-    let e = e c.before.before in
-    omega (arith, e.put_payload.ensures.0, fits (t e), (s (t e)).pre.1)
+    let e = c in
+    omega (arith, e.put_payload-len.ensures.0, fits c.before.before.before.before.before.before.before.before.before.before.before.before.before.before, e.requires.1)
 
-part-payload-sum-end : tie.Need-slice-bounds-payload-sum-end
+part-payload-sum-end : tie.Need-slice_bounds-payload_sum-end
 part-payload-sum-end c =
-    let q = c.before.before.before in
-    omega (arith, (e q).put_payload.ensures.0, room (e q), same_length (k q), q.put-places.auto.0)
+    let q = c in
+    omega (arith, q.put_payload-len.ensures.0, room c.before.before.before.before.before.before.before.before.before.before.before.before.before, same_length c.before.before.before.before.before.before.before.before, q.put_places.auto.buf)
 
-payload-sum-requires : tie.Need-payload-sum-requires
-payload-sum-requires c κs = payload_rooted _ _ _ _ _ _ (whole c.before.before.before.before)
+payload-sum-requires : tie.Need-payload_sum-requires
+payload-sum-requires c κs = payload_rooted _ _ _ _ _ _ (whole c.before.before.before)
 
 returns : tie.Need-returns
 unfolding file_at
 returns c =
-    let h = c.before.before in
-    let x = h.before.before in
-    let y = x.before in
-    let q = y.before.before.before.before.before in
-    let e = e q in
-    let r = s (t e) in
-    file_put (f e) (os e) r.pre.0.1 (ss e) (at e) r.args.id (b e) r.pre.1.0.0 (room e) _ (put q) _ _ _ _ e.put_payload.ensures.0
-    (hash_of _ _ _ y.payload-sum.ensures x.hash-by.ensures ∙ ap content_hash (whole q)) h.put-header.ensures
-    ∙ ap (λ (zs : List ℕ). over (b e) 0 (copies_at (f e) (os e)
-    ++ segment 5 0 r.args.id r.args.timestamp (payload_at (copies_at (f e) (os e)) (places_at (f e) 0 (os e)) zs (at e) r.args.id)))
-    (zeros_front (n (t e)) 1024 r.pre.0.0)
+    let h = c in
+    let x = h in
+    let y = x in
+    let q = y in
+    let e = q in
+    let r = e in
+    file_put (f c.before.before.before.before.before.before.before.before.before.before.before.before.before.before.before.before.before.before.before.before) (os c.before.before.before.before.before.before.before.before.before.before.before.before.before.before.before.before.before.before.before.before) r.requires.0.1 (ss c.before.before.before.before.before.before.before.before.before.before.before.before.before.before.before.before.before.before.before.before) (at c.before.before.before.before.before.before.before.before.before.before.before.before.before.before.before.before.before.before.before.before) r.args.id (b c.before.before.before.before.before.before.before.before.before.before.before.before.before.before.before.before.before.before.before.before) r.requires.1.0.0 (room c.before.before.before.before.before.before.before.before.before.before.before.before.before.before.before.before.before.before.before.before) _ (put c.before.before.before.before.before.before.before.before.before) _ _ _ _ e.put_payload-len.ensures.0
+    (hash_of _ _ _ y.payload_sum.ensures x.hash_by-hash.ensures ∙ ap content_hash (whole c.before.before.before.before.before.before.before.before.before)) h.put_header.ensures
+    ∙ ap (λ (zs : List ℕ). over (b c.before.before.before.before.before.before.before.before.before.before.before.before.before.before.before.before.before.before.before.before) 0 (copies_at (f c.before.before.before.before.before.before.before.before.before.before.before.before.before.before.before.before.before.before.before.before) (os c.before.before.before.before.before.before.before.before.before.before.before.before.before.before.before.before.before.before.before.before)
+    ++ segment 5 0 r.args.id r.args.timestamp (payload_at (copies_at (f c.before.before.before.before.before.before.before.before.before.before.before.before.before.before.before.before.before.before.before.before) (os c.before.before.before.before.before.before.before.before.before.before.before.before.before.before.before.before.before.before.before.before)) (places_at (f c.before.before.before.before.before.before.before.before.before.before.before.before.before.before.before.before.before.before.before.before) 0 (os c.before.before.before.before.before.before.before.before.before.before.before.before.before.before.before.before.before.before.before.before)) zs (at c.before.before.before.before.before.before.before.before.before.before.before.before.before.before.before.before.before.before.before.before) r.args.id)))
+    (zeros_front (n c.before.before.before.before.before.before.before.before.before.before.before.before.before.before.before.before.before.before.before.before.before) 1024 r.requires.0.0)
 
 pub put_file_spec : {M : Type 1} → statement M
 put_file_spec =
     tie.close
     (tie.spec
-    (search rules) (search rules) (search rules) (search rules) (search rules) slice-aggregate-put-payload put-payload-requires
-    copy-segments-requires (search rules) put-places-requires add-end (search rules) (search rules) part-payload-sum-end
-    payload-sum-requires (search rules) (search rules) (search rules) (search rules) (search rules) (search rules) (search rules) returns)
+    (search rules) (search rules) (search rules) (search rules) (search rules) slice-aggregate-put-payload put-payload-requires copy-segments-requires (search rules) put-places-requires add-end (search rules) (search rules) part-payload-sum-end payload-sum-requires (search rules) (search rules) (search rules) (search rules) (search rules) (search rules) (search rules) returns)

@@ -14,129 +14,100 @@ use borrow.Author.Rules.{rules}
 use Rattle.compact.proofs.select.select.Statement.{statement}
 use Rattle.compact.proofs.select.select.Tie as tie
 
-abbrev invariant-loop : tie.invariant-loop
-invariant-loop file offsets₀ manifest count n₀ end₀ i₀ offsets n end i = Selecting file offsets₀ offsets i n end
+abbrev invariant-loop-i : tie.invariant-loop-i
+invariant-loop-i file offsets₀ manifest count n₀ end₀ i₀ offsets n end i = Selecting file offsets₀ offsets i n end
 
-abbrev decreases-loop : tie.decreases-loop
-decreases-loop file offsets₀ manifest count n₀ end₀ i₀ offsets n end i = count - i
+abbrev decreases-loop-i : tie.decreases-loop-i
+decreases-loop-i file offsets₀ manifest count n₀ end₀ i₀ offsets n end i = count - i
 
 -- The entry that is looked at.
-module _ (b : tie.In-loop invariant-loop decreases-loop) where
-  abbrev l : tie.At-loop invariant-loop decreases-loop
-  l = b.before
-
-  abbrev s : tie.Start invariant-loop decreases-loop
-  s = l.before.before.before
-
-  entry : EntryAt s.args.file.now l.loop.offsets s.pre.1.1.found s.args.manifest l.loop.i
+module _ (b : tie.In-loop-i invariant-loop-i decreases-loop-i) where
+  entry : EntryAt b.args.file.now b.loop-i.offsets b.requires.1.1.found b.args.manifest b.loop-i.i
   entry =
-      select_entry _ _ _ s.pre.1.1 _ _ _ _ _ l.loop.inv (omega arith)
-      (entry_at _ _ _ _ (λ k. omega (arith, l.before.before.shared-slice-known.given k)) s.pre.1.0
-      s.pre.0 s.pre.1.1 l.loop.i (omega arith))
+      select_entry _ _ _ b.requires.1.1 _ _ _ _ _ b.loop-i.invariant (omega arith)
+      (entry_at _ _ _ _ (λ k. omega (arith, b.shared_slice_known-1.given k)) b.requires.1.0
+      b.requires.0 b.requires.1.1 b.loop-i.i (omega arith))
 
-  at_most : l.loop.i < 1024
+  at_most : b.loop-i.i < 1024
   at_most = entry.at_most
 
-  stored : l.loop.i < length l.loop.offsets
+  stored : b.loop-i.i < length b.loop-i.offsets
   stored = entry.stored
 
-  few : l.loop.n ≤ l.loop.i
-  few = (l.loop.inv s.pre.1.1.found s.pre.1.1.opens).few
+  few : b.loop-i.n ≤ b.loop-i.i
+  few = (b.loop-i.invariant b.requires.1.1.found b.requires.1.1.opens).few
 
-  low : l.loop.end ≤ get_or l.loop.offsets l.loop.i 0
-  low = select_low _ _ _ s.pre.1.1 _ _ _ _ _ l.loop.inv (omega arith) entry
+  low : b.loop-i.end ≤ get_or b.loop-i.offsets b.loop-i.i 0
+  low = select_low _ _ _ b.requires.1.1 _ _ _ _ _ b.loop-i.invariant (omega arith) entry
 
   -- the segment lies in the file
-  room : get_or l.loop.offsets l.loop.i 0 + (64 + length_at s.args.file.now (get_or l.loop.offsets l.loop.i 0)) ≤ 16777216
-  room = omega (arith, entry.numbered.room, entry.numbered.length_is, s.pre.1.1.within)
+  room : get_or b.loop-i.offsets b.loop-i.i 0 + (64 + length_at b.args.file.now (get_or b.loop-i.offsets b.loop-i.i 0)) ≤ 16777216
+  room = omega (arith, entry.numbered.room, entry.numbered.length_is, b.requires.1.1.within)
 
-  many : length l.loop.offsets ≡ length s.args.offsets.now
-  many = (l.loop.inv s.pre.1.1.found s.pre.1.1.opens).many
+  many : length b.loop-i.offsets ≡ length b.args.offsets.now
+  many = (b.loop-i.invariant b.requires.1.1.found b.requires.1.1.opens).many
 
 -- Where the segment is whole.
-module _ (e : tie.Else3 invariant-loop decreases-loop) where
-  abbrev u : tie.After-u64-at invariant-loop decreases-loop
-  u = e.before.before
+module _ (e : tie.Else-not-is_whole invariant-loop-i decreases-loop-i) where
+  small : e.loop-i.end + (64 + round64 e.u64_at-length.result) ≤ 33554432
+  small = omega (arith, low e.before.before.before.before.before.before.before.before, room e.before.before.before.before.before.before.before.before, e.u64_at-length.ensures, round64_lt e.u64_at-length.result)
 
-  abbrev b : tie.In-loop invariant-loop decreases-loop
-  b = u.before.before.before.before.before.before
-
-  small : (l b).loop.end + (64 + round64 u.u64-at.result) ≤ 33554432
-  small = omega (arith, low b, room b, u.u64-at.ensures, round64_lt u.u64-at.result)
-
-loop-again : tie.Need-loop-preserved invariant-loop decreases-loop
+loop-again : tie.Need-loop-i-preserved-then-file-manifest-ne0 invariant-loop-i decreases-loop-i
 loop-again c =
-    let b = c.before.before.before in
-    select_retired _ _ _ (s b).requires.1.1 _ _ _ _ _ (l b).loop.invariant (omega arith) (entry b) c.if1.true
+    let b = c in
+    select_retired _ _ _ b.requires.1.1 _ _ _ _ _ b.loop-i.invariant (omega arith) (entry c.before.before.before) c.if-file-manifest-ne0.true
 
-shared-slice-read-if2 : tie.Need-shared-slice-read-if2 invariant-loop decreases-loop
+shared-slice-read-if2 : tie.Need-bounds-file-p invariant-loop-i decreases-loop-i
 shared-slice-read-if2 c =
-    let b = c.before.before.before.before in
-    omega (arith, entry b, (s b).requires.1.1.within)
+    let b = c in
+    omega (arith, entry c.before.before.before.before, b.requires.1.1.within)
 
-loop-again-2 : tie.Need-loop-preserved-2 invariant-loop decreases-loop
+loop-again-2 : tie.Need-loop-i-preserved-then-file-p-eq-KIND invariant-loop-i decreases-loop-i
 loop-again-2 c =
-    let e1 = c.before.before in
-    let b = e1.before.before.before in
-    select_manifest _ _ _ (s b).requires.1.1 _ _ _ _ _ (l b).loop.invariant (omega arith) (entry b) e1.if1.false c.if2.true
+    let e1 = c in
+    let b = e1 in
+    select_manifest _ _ _ b.requires.1.1 _ _ _ _ _ b.loop-i.invariant (omega arith) (entry c.before.before.before.before.before) e1.if-file-manifest-ne0.false c.if-file-p-eq-KIND.true
 
-u64-at-requires : tie.Need-u64-at-requires invariant-loop decreases-loop
+u64-at-requires : tie.Need-u64_at-length-requires invariant-loop-i decreases-loop-i
 u64-at-requires c κs =
-    let b = c.before.before.before.before.before in
-    omega (arith, entry b, (s b).requires.1.1.within)
+    let b = c in
+    omega (arith, entry c.before.before.before.before.before, b.requires.1.1.within)
 
-is-whole-requires : tie.Need-is-whole-requires invariant-loop decreases-loop
-is-whole-requires c κs = omega (arith, (entry c.before.before.before.before.before.before).numbered, c.u64-at.ensures)
+is-whole-requires : tie.Need-is_whole-requires invariant-loop-i decreases-loop-i
+is-whole-requires c κs = omega (arith, (entry c.before.before.before.before.before.before).numbered, c.u64_at-length.ensures)
 
-same_length : tie.Need-same-length invariant-loop decreases-loop
+same_length : tie.Need-shape_of-offsets-then-not-is_whole invariant-loop-i decreases-loop-i
 same_length c = many c.before.before.before.before.before.before.before.before
 
-returns : tie.Need-returns invariant-loop decreases-loop
+returns : tie.Need-returns-then-not-is_whole invariant-loop-i decreases-loop-i
 returns c =
-    let u = c.before.before in
-    let e2 = u.before in
-    let e1 = e2.before.before in
-    let b = e1.before.before.before in
-    select_damaged _ _ _ (s b).requires.1.1 _ _ _ _ _ (l b).loop.invariant (omega arith) (entry b) e1.if1.false e2.if2.false _ u.u64-at.ensures
-    (sym c.before.is_whole.ensures ∙ not-true _ c.if3.true)
+    let u = c in
+    let e2 = u in
+    let e1 = e2 in
+    let b = e1 in
+    select_damaged _ _ _ b.requires.1.1 _ _ _ _ _ b.loop-i.invariant (omega arith) (entry c.before.before.before.before.before.before.before.before) e1.if-file-manifest-ne0.false e2.if-file-p-eq-KIND.false _ u.u64_at-length.ensures
+    (sym c.is_whole.ensures ∙ c.if-not-is_whole.true)
 
-loop-again-3 : tie.Need-loop-preserved-3 invariant-loop decreases-loop
+loop-again-3 : tie.Need-loop-i-preserved invariant-loop-i decreases-loop-i
 loop-again-3 c =
-    let e3 = c.before in
-    let u = e3.before.before in
-    let e2 = u.before in
-    let e1 = e2.before.before in
-    let b = e1.before.before.before in
-    select_next _ _ _ (s b).requires.1.1 _ _ _ _ _ (l b).loop.invariant (omega arith) (entry b) e1.if1.false e2.if2.false _ u.u64-at.ensures
-    (sym e3.before.is_whole.ensures ∙ not-false _ e3.if3.false) _ (ap (λ n. 64 + n) c.round_up.ensures)
+    let e3 = c in
+    let u = e3 in
+    let e2 = u in
+    let e1 = e2 in
+    let b = e1 in
+    select_next _ _ _ b.requires.1.1 _ _ _ _ _ b.loop-i.invariant (omega arith) (entry c.before.before.before.before.before.before.before.before.before) e1.if-file-manifest-ne0.false e2.if-file-p-eq-KIND.false _ u.u64_at-length.ensures
+    (sym e3.is_whole.ensures ∙ e3.if-not-is_whole.false) _ (ap (λ n. 64 + n) c.round_up.ensures)
 
-same-length-2 : tie.Need-same-length-2 invariant-loop decreases-loop
+same-length-2 : tie.Need-shape_of-offsets invariant-loop-i decreases-loop-i
 same-length-2 c =
-    let s = c.before.before.before.before in
-    (c.before.loop.invariant s.requires.1.1.found s.requires.1.1.opens).many
+    let s = c in
+    (c.loop-i.invariant s.requires.1.1.found s.requires.1.1.opens).many
 
-returns-2 : tie.Need-returns-2 invariant-loop decreases-loop
-returns-2 c = select_last _ _ _ c.before.before.before.before.requires.1.1 _ _ _ _ _ c.before.loop.invariant (omega arith)
+returns-2 : tie.Need-returns invariant-loop-i decreases-loop-i
+returns-2 c = select_last _ _ _ c.requires.1.1 _ _ _ _ _ c.loop-i.invariant (omega arith)
 
 pub select_spec : {M : Type 1} → statement M
 select_spec =
     tie.close
     (tie.spec
-    invariant-loop decreases-loop (λ c. select_first _ _) (λ c. omega (arith, at_most c)) (λ c. omega (arith, stored c.before))
-    (λ c. omega (arith, entry c.before, (s c.before).pre.1.1.within))
-    (λ c. omega (arith, at_most c.before))
-    (λ c. omega (arith, entry c.before, (s c.before).pre.1.1.within))
-    (λ c. omega (arith, entry c.before, (s c.before).pre.1.1.within))
-    (λ c. omega (arith, entry c.before.before, (s c.before.before).pre.1.1.within))
-    (λ c. omega (arith, at_most c.before.before.before)) (search rules) loop-again
-    (λ c. omega (arith, room c.before.before.before))
-    shared-slice-read-if2 (λ c. omega (arith, at_most c.before.before.before.before.before)) (search rules) loop-again-2
-    (λ c. omega (arith, room c.before.before.before.before.before))
-    u64-at-requires is-whole-requires same_length returns
-    (λ c. omega (arith, at_most (b c), few (b c)))
-    (λ c. omega (arith, stored (b c), few (b c)))
-    (λ c. omega (arith, at_most (b c), few (b c)))
-    (λ c κs. omega (arith, room (b c), (u c).u64-at.ensures))
-    (λ c. omega (arith, small c.before, c.round_up.ensures))
-    (λ c. omega (arith, small c.before, c.round_up.ensures))
-    (λ c. omega (arith, at_most (b c.before))) (search rules) loop-again-3 same-length-2 returns-2)
+    invariant-loop-i decreases-loop-i (λ c. select_first _ _) (λ c. omega (arith, at_most c)) (λ c. omega (arith, stored c.before)) (λ c. omega (arith, entry c.before, c.requires.1.1.within)) (λ c. omega (arith, at_most c.before)) (λ c. omega (arith, entry c.before, c.requires.1.1.within)) (λ c. omega (arith, entry c.before, c.requires.1.1.within)) (λ c. omega (arith, entry c.before.before, c.requires.1.1.within)) (λ c. omega (arith, at_most c.before.before.before)) (search rules) loop-again (λ c. omega (arith, room c.before.before.before)) shared-slice-read-if2 (λ c. omega (arith, at_most c.before.before.before.before.before)) (search rules) loop-again-2 (λ c. omega (arith, room c.before.before.before.before.before)) u64-at-requires is-whole-requires same_length returns (λ c. omega (arith, at_most c.before.before.before.before.before.before.before.before, few c.before.before.before.before.before.before.before.before)) (λ c. omega (arith, stored c.before.before.before.before.before.before.before.before, few c.before.before.before.before.before.before.before.before)) (λ c. omega (arith, at_most c.before.before.before.before.before.before.before.before, few c.before.before.before.before.before.before.before.before)) (λ c κs. omega (arith, room c.before.before.before.before.before.before.before.before, c.u64_at-length.ensures)) (λ c. omega (arith, small c.before, c.round_up.ensures)) (λ c. omega (arith, small c.before, c.round_up.ensures)) (λ c. omega (arith, at_most c.before.before.before.before.before.before.before.before.before)) (search rules) loop-again-3 same-length-2 returns-2)
