@@ -152,13 +152,13 @@ module _ (f : List ℕ) (k : Model) (a : Agree f k) (batch ids : List ℕ) (ts :
   bs = bodies_of batch
 
   -- the model with the old manifest's entry, some entries retired
-  abbrev old : Model
-  old = join_manifest (retire ids k)
+  abbrev old_model : Model
+  old_model = join_manifest (retire ids k)
 
   abbrev full : Model
-  full = join_bodies ts bs old
+  full = join_bodies ts bs old_model
 
-  old-links : links_of old.entries ≡ kept_links (opened f)
+  old-links : links_of old_model.entries ≡ kept_links (opened f)
   unfolding join_manifest retire
   old-links =
       map-append (λ (x : Entry). x.link) (map (retired_if ids) k.entries) (if_any k.manifest)
@@ -169,22 +169,22 @@ module _ (f : List ℕ) (k : Model) (a : Agree f k) (batch ids : List ℕ) (ts :
   pub full_links : links_of full.entries ≡ new_links (opened f) bs ts
   unfolding join_manifest retire new_links
   full_links =
-      (joined ts bs old).links
+      (joined ts bs old_model).links
       ∙ ap (λ (ls : List Link). ls ++ body_links k.end k.next ts bs) old-links
       ∙ ap (λ (m : ℕ). kept_links (opened f) ++ body_links m k.next ts bs) (sym a.end_is)
       ∙ ap (λ (m : ℕ). kept_links (opened f) ++ body_links (start_of (opened f)) m ts bs) (sym a.next_is)
 
   pub full_states : states_of full.entries ≡ new_states (opened f) bs ids
   unfolding join_manifest retire new_states
-  full_states = (joined ts bs old).states ∙ ap (λ (ss : List ℕ). ss ++ replicate (length bs) 0) (sym (a.kept_states_are ids))
+  full_states = (joined ts bs old_model).states ∙ ap (λ (ss : List ℕ). ss ++ replicate (length bs) 0) (sym (a.kept_states_are ids))
 
   pub full_end : full.end ≡ manifest_at (opened f) bs
   unfolding join_manifest retire manifest_at
-  full_end = (joined ts bs old).end_is ∙ ap (λ (m : ℕ). bodies_end m bs) (sym a.end_is)
+  full_end = (joined ts bs old_model).end_is ∙ ap (λ (m : ℕ). bodies_end m bs) (sym a.end_is)
 
   pub full_next : full.next ≡ manifest_id (opened f) bs
   unfolding join_manifest retire manifest_id
-  full_next = (joined ts bs old).next_is ∙ ap (λ (m : ℕ). m + length bs) (sym a.next_is)
+  full_next = (joined ts bs old_model).next_is ∙ ap (λ (m : ℕ). m + length bs) (sym a.next_is)
 
   -- the model's new manifest is the one that is written
   abbrev link : Link

@@ -107,7 +107,7 @@ accepted_fits : (f : List ℕ) (r : Found Link) → opened f ≡ some r → (old
     → Fits (length old) (length f) (some r) batch ids
 unfolding append_answer
 accepted_fits f r e old batch ids vs hold q =
-    let inside = (accepted_when (length old) (length f) (opened (take (length f) old)) batch ids vs q).0.in_Buffer in
+    let inside = (accepted_when (length old) (length f) (opened (take (length f) old)) batch ids vs q).0.in_buffer in
     (accepted_when (length old) (length f) (some r) batch ids vs
     (sym (opens_to f r e old batch ids (hold inside)) ∙ q)).0
 
