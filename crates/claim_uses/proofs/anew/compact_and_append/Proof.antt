@@ -12,57 +12,44 @@ use Rattle.claim_uses.proofs.anew.compact_and_append.Statement.{statement}
 use Rattle.claim_uses.proofs.anew.compact_and_append.Tie as tie
 
 -- Where both are accepted: the end that the append answers lies in the buffer.
-module _ (a : tie.After-a2) where
-  abbrev p : tie.After-append
-  p = a.before.before.before.before
+module _ (a : tie.In-At-a) where
+  bytes : Bytes a.args.file.now
+  bytes i = omega (arith, a.shared_slice_known-1.given i)
 
-  abbrev b : tie.After-c2
-  b = p.before.before.before
-
-  abbrev k : tie.After-compact
-  k = b.before.before.before.before
-
-  abbrev s : tie.Start
-  s = k.before.before.before.before.before.before
-
-  bytes : Bytes s.args.file.now
-  bytes i = omega (arith, k.before.before.before.before.before.shared-slice-known.given i)
-
-  inside : a.a2.given.0.0 ≤ length p.append.last.0
+  inside : a.in-At-a.last ≤ length a.append-a.new.buf
   inside =
-      end_inside s.args.file.now _ _ _ s.args.batch.now s.args.retire.now s.args.timestamp
-      s.fits.timestamp.fits bytes _ _ _ _ _ _ _ _ b.c2.given.1 a.a2.given.1 k.compact.ensures.0
-      k.compact.ensures.1 p.append.ensures
+      end_inside a.args.file.now _ _ _ a.args.batch.now a.args.retire.now a.args.timestamp
+      a.fits.timestamp.fits bytes _ _ _ _ _ _ _ _ a.in-At.is a.in-At-a.is a.compact-c.ensures.0
+      a.compact-c.ensures.1 a.append-a.ensures
 
-slice-reshare-prefix-open : tie.Need-slice-reshare-prefix-open
-slice-reshare-prefix-open c = inside c.before
+slice-reshare-prefix-open : tie.Need-slice_bounds-open-end
+slice-reshare-prefix-open c = inside c
 
-slice-aggregate-open : tie.Need-slice-aggregate-open
-slice-aggregate-open c = sym (length-take-le _ _ (inside c.before.before))
+slice-aggregate-open : tie.Need-slice_bounds-open-end-in-At-a
+slice-aggregate-open c = sym (length-take-le _ _ (inside c))
 
-returns : tie.Need-returns
+returns : tie.Need-returns-in-Refused
 returns c =
-    let k = c.before.before.before.before.before in
-    way_first _ _ _ _ _ _ _ _ c.before.c.given.1 k.compact.ensures.0 k.compact.ensures.1
+    let k = c in
+    way_first _ _ _ _ _ _ _ _ c.in-Refused.is k.compact-c.ensures.0 k.compact-c.ensures.1
 
-returns-2 : tie.Need-returns-2
+returns-2 : tie.Need-returns-in-Refused-a
 returns-2 c =
-    let p = c.before.before.before.before.before in
-    let b = p.before.before.before in
-    let k = b.before.before.before.before in
-    way_second _ _ _ _ _ _ _ _ _ _ _ _ _ b.c2.given.1 c.before.a.given.1 k.compact.ensures.0
-    k.compact.ensures.1 p.append.ensures
+    let p = c in
+    let b = p in
+    let k = b in
+    way_second _ _ _ _ _ _ _ _ _ _ _ _ _ b.in-At.is c.in-Refused-a.is k.compact-c.ensures.0
+    k.compact-c.ensures.1 p.append-a.ensures
 
-returns-3 : tie.Need-returns-3
+returns-3 : tie.Need-returns-in-At-a
 returns-3 c =
-    let a = c.before.before.before in
-    way_opened (s a).args.file.now _ _ _ (s a).args.batch.now (s a).args.retire.now (s a).args.timestamp
-    (s a).ranges.timestamp.fits (bytes a) _ _ _ _ _ _ _ _ (b a).c2.given.1 a.a2.given.1 (k a).compact.ensures.0
-    (k a).compact.ensures.1 (p a).append.ensures _ c.«open».ensures
+    let a = c in
+    way_opened a.args.file.now _ _ _ a.args.batch.now a.args.retire.now a.args.timestamp
+    a.ranges.timestamp.fits (bytes c.before) _ _ _ _ _ _ _ _ a.in-At.is a.in-At-a.is a.compact-c.ensures.0
+    a.compact-c.ensures.1 a.append-a.ensures _ c.«open».ensures
 
 pub compact_and_append_spec : {M : Type 1} → statement M
 compact_and_append_spec =
     tie.close
     (tie.spec
-    (search rules) (search rules) (search rules) (search rules) (search rules) (search rules) slice-reshare-prefix-open
-    slice-aggregate-open (search rules) (search rules) returns (search rules) returns-2 (search rules) returns-3)
+    (search rules) (search rules) (search rules) (search rules) (search rules) (search rules) slice-reshare-prefix-open slice-aggregate-open (search rules) (search rules) returns (search rules) returns-2 (search rules) returns-3)

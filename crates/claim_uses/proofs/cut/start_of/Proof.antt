@@ -6,14 +6,14 @@ use borrow.Author.Rules.{rules}
 use Rattle.claim_uses.proofs.cut.start_of.Statement.{statement}
 use Rattle.claim_uses.proofs.cut.start_of.Tie as tie
 
-returns : tie.Need-returns
-returns c = λ h. start_refused _ _ (sym c.before.before.«open».ensures ∙ c.enum_told.given.1) h
+returns : tie.Need-returns-in-Refused
+returns c = λ h. start_refused _ _ (sym c.before.«open».ensures ∙ c.in-Refused.is) h
 
-returns-2 : tie.Need-returns-2
-returns-2 c = λ h. start_none _ _ (sym c.before.before.«open».ensures ∙ c.enum-told2.given.1)
+returns-2 : tie.Need-returns-in-NoManifest
+returns-2 c = λ h. start_none _ _ (sym c.before.«open».ensures ∙ c.in-NoManifest.is)
 
-returns-3 : tie.Need-returns-3
-returns-3 c = λ h. start_at _ _ _ _ _ _ (sym c.before.before.before.«open».ensures ∙ c.before.o.given.1)
+returns-3 : tie.Need-returns-in-At
+returns-3 c = λ h. start_at _ _ _ _ _ _ (sym c.before.«open».ensures ∙ c.in-At.is)
 
 pub start_of_spec : {M : Type 1} → statement M
 start_of_spec =

@@ -9,45 +9,37 @@ use borrow.Author.Rules.{rules}
 use Rattle.rvf_c.proofs.by_id.rvf_component.Statement.{statement}
 use Rattle.rvf_c.proofs.by_id.rvf_component.Tie as tie
 
-component-bits-requires : tie.Need-component-bits-requires
+component-bits-requires : tie.Need-component_bits-b-requires
 component-bits-requires c κs = tt
 
-enum-known-b : tie.Need-enum-known-b
+enum-known-b : tie.Need-enum_known-b
 enum-known-b c = search rules
 
-enum-known-b-2 : tie.Need-enum-known-b-2
+enum-known-b-2 : tie.Need-enum_known-b-in-Of-1
 enum-known-b-2 c = search rules
 
-cast-out : tie.Need-overflow-cast-out
+cast-out : tie.Need-overflow_cast-out
 cast-out c = search rules
 
-element-write-out : tie.Need-element-write-out
+element-write-out : tie.Need-bounds-out-0
 element-write-out c = lit< tt
 
-cast-out-2 : tie.Need-overflow-cast-out-2
+cast-out-2 : tie.Need-overflow_cast-out-in-Of
 cast-out-2 c = search rules
 
-element-write-out-2 : tie.Need-element-write-out-2
+element-write-out-2 : tie.Need-bounds-out-1
 element-write-out-2 c = lit< tt
 
-returns : tie.Need-returns
+returns : tie.Need-returns-in-Refused
 unfolding bits_answer
-returns c = out_refused _ _ [] _ (ap bits_answer (sym c.before.before.before.component-bits.ensures ∙ c.before.b.given.1))
+returns c = out_refused _ _ [] _ (ap bits_answer (sym c.component_bits-b.ensures ∙ c.in-Refused.is))
 
-returns-2 : tie.Need-returns-2
+returns-2 : tie.Need-returns-in-Of
 unfolding bits_answer
-returns-2 c = out_accepted _ _ _ (ap bits_answer (sym c.before.before.before.component-bits.ensures ∙ c.before.b2.given.1))
+returns-2 c = out_accepted _ _ _ (ap bits_answer (sym c.component_bits-b.ensures ∙ c.in-Of.is))
 
 pub rvf_component_spec : {M : Type 1} → statement M
 rvf_component_spec =
     tie.close
     (tie.spec
-    component-bits-requires
-    enum-known-b
-    enum-known-b-2
-    cast-out
-    element-write-out
-    cast-out-2
-    element-write-out-2
-    returns
-    returns-2)
+    component-bits-requires enum-known-b enum-known-b-2 cast-out element-write-out cast-out-2 element-write-out-2 returns returns-2)

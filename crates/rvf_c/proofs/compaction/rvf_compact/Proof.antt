@@ -9,23 +9,22 @@ use borrow.Author.Rules.{rules}
 use Rattle.rvf_c.proofs.compaction.rvf_compact.Statement.{statement}
 use Rattle.rvf_c.proofs.compaction.rvf_compact.Tie as tie
 
-returns : tie.Need-returns
+returns : tie.Need-returns-in-Refused
 unfolding compacted_answer
 returns c =
-    let k = c.before.before.before.before.before.compact.ensures in
-    let a = out_refused _ _ [] _ (ap compacted_answer (sym k.0 ∙ c.before.c.given.1)) in
+    let k = c.compact-c.ensures in
+    let a = out_refused _ _ [] _ (ap compacted_answer (sym k.0 ∙ c.in-Refused.is)) in
     (a.0, (k.1, a.1))
 
-returns-2 : tie.Need-returns-2
+returns-2 : tie.Need-returns-in-At
 unfolding compacted_answer
 returns-2 c =
-    let k = c.before.before.before.before.before.compact.ensures in
-    let a = out_accepted _ _ _ (ap compacted_answer (sym k.0 ∙ c.before.c2.given.1)) in
+    let k = c.compact-c.ensures in
+    let a = out_accepted _ _ _ (ap compacted_answer (sym k.0 ∙ c.in-At.is)) in
     (a.0, (k.1, a.1))
 
 pub rvf_compact_spec : {M : Type 1} → statement M
 rvf_compact_spec =
     tie.close
     (tie.spec
-    (λ c κs. tt) (search rules) (search rules) (λ c. lit< tt) (λ c. lit< tt) (λ c. lit< tt) (search rules) returns
-    (search rules) returns-2)
+    (λ c κs. tt) (search rules) (search rules) (λ c. lit< tt) (λ c. lit< tt) (λ c. lit< tt) (search rules) returns (search rules) returns-2)

@@ -9,35 +9,29 @@ use borrow.Author.Rules.{rules}
 use Rattle.rvf_c.proofs.leaves.rvf_varint_read.Statement.{statement}
 use Rattle.rvf_c.proofs.leaves.rvf_varint_read.Tie as tie
 
-read-requires : tie.Need-read-requires
+read-requires : tie.Need-read-v-requires
 read-requires c κs = tt
 
-enum-known-v : tie.Need-enum-known-v
+enum-known-v : tie.Need-enum_known-v
 enum-known-v c = search rules
 
-enum-known-v-2 : tie.Need-enum-known-v-2
+enum-known-v-2 : tie.Need-enum_known-v-in-Value-1
 enum-known-v-2 c = search rules
 
-element-write-out : tie.Need-element-write-out
+element-write-out : tie.Need-bounds-out-0
 element-write-out c = lit< tt
 
-element-write-out-2 : tie.Need-element-write-out-2
+element-write-out-2 : tie.Need-bounds-out-1
 element-write-out-2 c = lit< tt
 
-returns : tie.Need-returns
-returns c = out_refused _ _ [] _ (ap varint_answer (sym c.before.before.before.read.ensures ∙ c.before.v.given.1))
+returns : tie.Need-returns-in-Refused
+returns c = out_refused _ _ [] _ (ap varint_answer (sym c.read-v.ensures ∙ c.in-Refused.is))
 
-returns-2 : tie.Need-returns-2
-returns-2 c = out_accepted _ _ _ (ap varint_answer (sym c.before.before.before.read.ensures ∙ c.before.v2.given.1))
+returns-2 : tie.Need-returns-in-Value
+returns-2 c = out_accepted _ _ _ (ap varint_answer (sym c.read-v.ensures ∙ c.in-Value.is))
 
 pub rvf_varint_read_spec : {M : Type 1} → statement M
 rvf_varint_read_spec =
     tie.close
     (tie.spec
-    read-requires
-    enum-known-v
-    enum-known-v-2
-    element-write-out
-    element-write-out-2
-    returns
-    returns-2)
+    read-requires enum-known-v enum-known-v-2 element-write-out element-write-out-2 returns returns-2)

@@ -7,21 +7,22 @@ use borrow.Author.Rules.{rules}
 use Rattle.rvf_c.proofs.payloads.rvf_vec_read.Statement.{statement}
 use Rattle.rvf_c.proofs.payloads.rvf_vec_read.Tie as tie
 
-read-requires : tie.Need-read-requires
+read-requires : tie.Need-read-v-requires
 read-requires c κs = tt
 
-lay-vector-requires : tie.Need-lay-vector-requires
+lay-vector-requires : tie.Need-lay_vector-requires
 lay-vector-requires c κs = tt
 
-same_length : tie.Need-same-length
+same_length : tie.Need-shape_of-buffer
 same_length c = search rules
 
 returns : tie.Need-returns
 returns c =
-    let called = c.before.before.before.before.read.ensures in
-    let laid = c.lay-vector.ensures in
+    let called = c.read-v.ensures in
+    let laid = c.lay_vector.ensures in
     let a = ap vector_answer called.0 in
     (laid.0 ∙ ap number a, (called.1, laid.1 ∙ ap (out_of _) a))
 
 pub rvf_vec_read_spec : {M : Type 1} → statement M
-rvf_vec_read_spec = tie.close (tie.spec read-requires lay-vector-requires same_length returns)
+rvf_vec_read_spec = tie.close (tie.spec
+    read-requires lay-vector-requires same_length returns)
