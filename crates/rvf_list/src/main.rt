@@ -3,18 +3,16 @@
 #![tactic(auto)]
 
 use answers::Wrote;
-use libc::{STDIN_FILENO, STDOUT_FILENO};
+use std::io;
+use std::io::Read;
 
-fn main() {
-    let mut file = [0u8; 65537];
+fn main(rt: HostRuntime) -> io::Result<()> {
+    let mut file = Vec::new(rt.alloc());
+    rt.reader().take(65_537).read_to_end(&mut file)?;
     let mut text = [0u8; 102400];
-    let n = io::read_full(STDIN_FILENO, &mut file);
-    let wrote = listing::list(&file[..n], &mut text);
-    match wrote {
+    match listing::list(&file, &mut text) {
         // The buffer has room for the longest list.
-        Wrote::Refused(_) => {}
-        Wrote::Length(length) => {
-            io::write_all(STDOUT_FILENO, &text[..length]);
-        }
+        Wrote::Refused(_) => Ok(()),
+        Wrote::Length(length) => rt.write_all(&text[..length]),
     }
 }

@@ -3,46 +3,43 @@
 #![tactic(auto)]
 
 use answers::Wrote;
-use libc::{STDIN_FILENO, STDOUT_FILENO};
+use std::io;
+use std::io::Read;
 
-fn line(n: u64) {
-    io::print_decimal(STDOUT_FILENO, n);
-    io::write_all(STDOUT_FILENO, b"\n");
+fn line(rt: &impl Print, n: u64) -> io::Result<()> {
+    println!(rt; "{n}")
 }
 
-fn refused(n: u64) {
-    io::write_all(STDOUT_FILENO, b"refused ");
-    line(n);
+fn refused(rt: &impl Print, n: u64) -> io::Result<()> {
+    print!(rt; "refused ")?;
+    line(rt, n)
 }
 
-fn list(ids: &[u64; 4096], count: u64) {
-    for i in 0..4096 {
-        if (i as u64) < count {
-            line(ids[i]);
-        }
+fn list(rt: &impl Print, ids: &[u64; 4096], count: u64) -> io::Result<()> {
+    for id in ids.iter().take(count as usize) {
+        line(rt, *id)?;
     }
+    Ok(())
 }
 
-fn show(bytes: &[u8]) {
+fn show(rt: &impl Print, bytes: &[u8]) -> io::Result<()> {
     if bytes.len() < 7 {
-        refused(5);
-        return;
+        return refused(rt, 5);
     }
-    let count = octets::le::u32_at(bytes, 3) as u64;
+    let count = u64::from(octets::le::u32_at(bytes, 3));
     let mut ids = [0u64; 4096];
-    let w = idmap_read::read(bytes, count, &mut ids);
-    match w {
-        Wrote::Refused(e) => refused(e as u64),
+    match idmap_read::read(bytes, count, &mut ids) {
+        Wrote::Refused(e) => refused(rt, u64::from(e)),
         Wrote::Length(n) => {
-            io::write_all(STDOUT_FILENO, b"length ");
-            line(n as u64);
-            list(&ids, count);
+            print!(rt; "length ")?;
+            line(rt, n as u64)?;
+            list(rt, &ids, count)
         }
     }
 }
 
-fn main() {
-    let mut buffer = [0u8; 65536];
-    let n = io::read_full(STDIN_FILENO, &mut buffer);
-    show(&buffer[..n]);
+fn main(rt: HostRuntime) -> io::Result<()> {
+    let mut bytes = Vec::new(rt.alloc());
+    rt.reader().take(65_536).read_to_end(&mut bytes)?;
+    show(&rt, &bytes)
 }

@@ -4,45 +4,42 @@
 
 ghost use Rattle.std.specs.Prelude.{◌≡◌, nat_abs};
 
-use libc::{STDIN_FILENO, STDOUT_FILENO};
 use reading::ComponentRead;
+use std::io;
+use std::io::Read;
 use vecseg::Component;
 
-fn line(value: u64) {
-    io::print_decimal(STDOUT_FILENO, value);
-    io::write_all(STDOUT_FILENO, b"\n");
+fn line(rt: &impl Print, value: u64) -> io::Result<()> {
+    println!(rt; "{value}")
 }
 
-fn refused(number: u32) {
-    io::write_all(STDOUT_FILENO, b"refused ");
-    line(number as u64);
+fn refused(rt: &impl Print, number: u32) -> io::Result<()> {
+    print!(rt; "refused ")?;
+    line(rt, u64::from(number))
 }
 
 // A payload's length on a line, then its bytes as they are; or the number of its refusal.
-fn print_payload(number: u32, part: &[u8]) {
+fn print_payload(rt: &impl Print, number: u32, part: &[u8]) -> io::Result<()> {
     if number != 0 {
-        refused(number);
-        return;
+        return refused(rt, number);
     }
-    io::write_all(STDOUT_FILENO, b"payload ");
-    line(part.len() as u64);
-    io::write_all(STDOUT_FILENO, part);
+    print!(rt; "payload ")?;
+    line(rt, part.len() as u64)?;
+    rt.write_all(part)
 }
 
-// The one function with a local of the struct that is handed back, since each such function is proved by a walk of
-// its code: it takes the struct apart.
-fn show_payload(file: &[u8], id: u64) {
+fn show_payload(rt: &impl Print, file: &[u8], id: u64) -> io::Result<()> {
     let handed = lookup::payload::payload(file, id);
-    print_payload(handed.number, handed.part)
+    print_payload(rt, handed.number, handed.part)
 }
 
 // A float by the number of its bits, which is exact. A NaN may have any of many, so it has a word.
-fn print_float(value: f32) {
-    io::write_all(STDOUT_FILENO, b"float ");
-    if value == value {
-        line(f32::to_bits(value) as u64);
+fn print_float(rt: &impl Print, value: f32) -> io::Result<()> {
+    print!(rt; "float ")?;
+    if value.is_nan() {
+        println!(rt; "nan")
     } else {
-        io::write_all(STDOUT_FILENO, b"nan\n");
+        line(rt, u64::from(value.to_bits()))
     }
 }
 
@@ -50,59 +47,53 @@ fn print_float(value: f32) {
 fn magnitude(value: i8) -> u64
     ensures { result ≡ nat_abs value }
 {
+    u64::from(value.unsigned_abs())
+}
+
+fn print_signed(rt: &impl Print, value: i8) -> io::Result<()> {
+    print!(rt; "signed ")?;
     if value < 0 {
-        (-(value as i64)) as u64
-    } else {
-        value as u64
+        print!(rt; "-")?;
     }
+    line(rt, magnitude(value))
 }
 
-fn print_signed(value: i8) {
-    io::write_all(STDOUT_FILENO, b"signed ");
-    if value < 0 {
-        io::write_all(STDOUT_FILENO, b"-");
-    }
-    line(magnitude(value));
+fn print_unsigned(rt: &impl Print, value: u8) -> io::Result<()> {
+    print!(rt; "unsigned ")?;
+    line(rt, u64::from(value))
 }
 
-fn print_unsigned(value: u8) {
-    io::write_all(STDOUT_FILENO, b"unsigned ");
-    line(value as u64);
-}
-
-fn print_component(value: Component) {
+fn print_component(rt: &impl Print, value: Component) -> io::Result<()> {
     match value {
-        Component::Float(float) => print_float(float),
-        Component::Signed(signed) => print_signed(signed),
-        Component::Unsigned(unsigned) => print_unsigned(unsigned),
+        Component::Float(float) => print_float(rt, float),
+        Component::Signed(signed) => print_signed(rt, signed),
+        Component::Unsigned(unsigned) => print_unsigned(rt, unsigned),
     }
 }
 
-fn show_component(file: &[u8], id: u64, index: u64) {
-    let read = lookup::vector::component(file, id, index);
-    match read {
-        ComponentRead::Value(value) => print_component(value),
-        ComponentRead::Refused(number) => refused(number),
+fn show_component(rt: &impl Print, file: &[u8], id: u64, index: u64) -> io::Result<()> {
+    match lookup::vector::component(file, id, index) {
+        ComponentRead::Value(value) => print_component(rt, value),
+        ComponentRead::Refused(number) => refused(rt, number),
     }
 }
 
 // The note and a segment that is not there; a component of each kind, and one behind a vector's last.
-fn show(file: &[u8]) {
-    show_payload(file, 0);
-    show_payload(file, 9);
-    show_component(file, 1, 0);
-    show_component(file, 3, 0);
-    show_component(file, 4, 0);
-    show_component(file, 4, 2);
+fn show(rt: &impl Print, file: &[u8]) -> io::Result<()> {
+    show_payload(rt, file, 0)?;
+    show_payload(rt, file, 9)?;
+    show_component(rt, file, 1, 0)?;
+    show_component(rt, file, 3, 0)?;
+    show_component(rt, file, 4, 0)?;
+    show_component(rt, file, 4, 2)
 }
 
 // One byte more than the limit is read, so that a longer file shows as one: it is refused as the lister refuses it.
-fn main() {
-    let mut file = [0u8; 65537];
-    let n = io::read_full(STDIN_FILENO, &mut file);
-    if n > 65536 {
-        refused(1);
-        return;
+fn main(rt: HostRuntime) -> io::Result<()> {
+    let mut file = Vec::new(rt.alloc());
+    rt.reader().take(65_537).read_to_end(&mut file)?;
+    if file.len() > 65_536 {
+        return refused(&rt, 1);
     }
-    show(&file[..n]);
+    show(&rt, &file)
 }
