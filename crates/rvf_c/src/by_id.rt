@@ -10,6 +10,7 @@ use reading::{ComponentBits, PayloadPlace};
 
 // Where the payload of the live segment with an id lies in the file: where it begins, and its length; or 1, 2, 3, 15,
 // 4.
+#[tactic(auto, unfolding(answers::specs::Answer::number, answers::specs::Answer::out_of, reading::specs::Part::place_answer))]
 #[unsafe(no_mangle)]
 pub extern "C" fn rvf_payload(file: &[u8], id: u64, out: &mut [u64; 2]) -> u32
     ensures number { result ≡ number (place_answer (place_of (part_in file.now id))) }
@@ -42,6 +43,7 @@ pub extern "C" fn rvf_vector(file: &[u8], id: u64, buffer: &mut [u8], out: &mut 
 
 // A component of the vector with an id: its dtype, and its bytes as a number, a NaN's payload included; or 1, 2, the
 // search's 4, 5, 6, 7, then 8.
+#[tactic(auto, unfolding(answers::specs::Answer::number, answers::specs::Answer::out_of, reading::specs::Component::bits_answer))]
 #[unsafe(no_mangle)]
 pub extern "C" fn rvf_component(file: &[u8], id: u64, index: u64, out: &mut [u64; 2]) -> u32
     ensures number { result ≡ number (bits_answer (bits_case (value_in file.now id index))) }

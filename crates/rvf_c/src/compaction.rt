@@ -8,6 +8,7 @@ use compacting::Compacted;
 // A fresh file of a file's live segments but manifests, with one manifest behind them, at the front of a buffer: the
 // new end, the manifest's id and the number of its entries; or 1, 2, then 4 where a segment to be copied is not whole,
 // then 9.
+#[tactic(auto, unfolding(answers::specs::Answer::number, answers::specs::Answer::out_of, compacting::specs::Compact::compacted_answer))]
 #[unsafe(no_mangle)]
 pub extern "C" fn rvf_compact(file: &[u8], buffer: &mut [u8], out: &mut [u64; 3]) -> u32
     ensures number { result ≡ number (compacted_answer (compact_case file.now buffer.old)) }

@@ -8,6 +8,7 @@ use manifest::{DirectoryEntry, Opened};
 
 // The file's manifest: offset, end, id, the number of its entries and the boundaries tried; 1; or 2, which writes the
 // boundaries tried alone.
+#[tactic(auto, unfolding(answers::specs::Answer::number, manifest::specs::Opening::open_answer, manifest::specs::Opening::opened_answer, manifest::specs::Opening::open_out))]
 #[unsafe(no_mangle)]
 pub extern "C" fn rvf_open(file: &[u8], out: &mut [u64; 5]) -> u32
     ensures number { result ≡ number (open_answer file.now) }
@@ -39,6 +40,7 @@ pub extern "C" fn rvf_open(file: &[u8], out: &mut [u64; 5]) -> u32
 
 // The entry with an index in the directory: offset, id, payload length, hash bytes 0 to 7 and 8 to 15, type, state,
 // flags; or 1, 2. Where the index is not below the number of entries it returns 255, which is no refusal.
+#[tactic(auto, unfolding(manifest::specs::Directory::entry_number, manifest::specs::Directory::entry_out))]
 #[unsafe(no_mangle)]
 pub extern "C" fn rvf_entry(file: &[u8], index: u64, out: &mut [u64; 8]) -> u32
     ensures number { result ≡ entry_number (entry_case file.now index) }

@@ -7,6 +7,7 @@ use appending::Appended;
 
 // A batch appended to the file that is the first n bytes of a buffer, some ids retired: the new end, the manifest's id
 // and the number of its entries; or 9, 1, 2, 10, then 5, 6, 7, then 11, 12, 13, 1, 9.
+#[tactic(auto, unfolding(answers::specs::Answer::number, answers::specs::Answer::out_of, appending::specs::Append::appended_answer))]
 #[unsafe(no_mangle)]
 pub extern "C" fn rvf_append(
     buffer: &mut [u8],
