@@ -1,6 +1,6 @@
 //! What must be believed: every definition that a contract of a public call or a statement of the claim reaches, file by file.
 
-use super::sources::{imports, read_all, words, Declaration, Module, Source};
+use super::sources::{imports, read_all, words, Declaration, Module, Source, PARTS};
 use std::collections::{BTreeMap, BTreeSet};
 use std::fs;
 use std::path::Path;
@@ -16,17 +16,17 @@ const CALLS: [(&str, &[&str]); 4] = [
 type Theorem = (&'static str, &'static str, &'static str);
 const THEOREMS: [Theorem; 4] = [
     ("claim", "Theorem", "demand3"),
-    ("claim", "Theorem", "closed-run"),
-    ("reading", "ReadFrom", "vector-read"),
+    ("claim", "Theorem", "closed_run"),
+    ("reading", "ReadFrom", "vector_read"),
     ("worked", "Proved", "table"),
 ];
 const OF_REQUESTS: [Theorem; 6] = [
     ("compacting", "Theorem", "compacted"),
-    ("claim", "LaterHolds", "later-appends"),
-    ("claim", "LaterHolds", "starts-anew"),
-    ("manifest", "FormerLaws", "stays-confirmed"),
-    ("manifest", "FormerLaws", "found-stays"),
-    ("manifest", "FormerLaws", "opens-as-before"),
+    ("claim", "LaterHolds", "later_appends"),
+    ("claim", "LaterHolds", "starts_anew"),
+    ("manifest", "FormerLaws", "stays_confirmed"),
+    ("manifest", "FormerLaws", "found_stays"),
+    ("manifest", "FormerLaws", "opens_as_before"),
 ];
 
 /// A file that a reviewer reads, by the lines to believe in it; and the laws that it holds besides.
@@ -133,9 +133,10 @@ fn reached_from(root: &Path, theorems: &[Theorem]) -> Vec<Reached> {
         }
     }
     for (name, module, theorem) in theorems.iter().copied() {
-        let home = (name.to_string(), module.to_string());
-        assert!(search.by_name.contains_key(&(home.clone(), theorem.to_string())), "{name}/{module} has no {theorem}");
-        search.add(&home, theorem);
+        let places = PARTS.map(|part| (name.to_string(), format!("{part}.{module}")));
+        let homes: Vec<_> = places.iter().filter(|home| search.by_name.contains_key(&((*home).clone(), theorem.to_string()))).collect();
+        assert_eq!(homes.len(), 1, "{theorem} stands in {} files {module} of {name}, and not in one", homes.len());
+        search.add(homes[0], theorem);
     }
     while let Some((module, index)) = search.todo.pop() {
         let source = &search.all[&module];

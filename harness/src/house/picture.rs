@@ -1,16 +1,9 @@
 //! The picture of the crates: one row a layer, each crate as low as what it names allows, drawn from crates.txt.
 
+use super::sources::crates;
 use std::collections::BTreeMap;
 use std::fs;
 use std::path::Path;
-
-/// The crates with what they name of the project's own, in the order of crates.txt.
-fn named(root: &Path) -> Vec<(String, Vec<String>)> {
-    let text = fs::read_to_string(root.join("crates.txt")).expect("crates.txt");
-    let lines = text.lines().filter(|line| !line.starts_with('#')).filter_map(|line| line.split_once(':'));
-    let words = |list: &str| list.split_whitespace().map(str::to_string).collect();
-    lines.map(|(name, list)| (name.to_string(), words(list))).collect()
-}
 
 /// Whether a crate has definitions and laws alone: no function in its sources.
 fn is_definitions(root: &Path, name: &str) -> bool {
@@ -22,7 +15,7 @@ fn is_definitions(root: &Path, name: &str) -> bool {
 
 /// The rows from the top down. A crate of definitions stands in brackets.
 pub fn picture(root: &Path) -> String {
-    let crates = named(root);
+    let crates = crates(root);
     let mut height: BTreeMap<&str, usize> = BTreeMap::new();
     for (name, uses) in &crates {
         let above = uses.iter().filter_map(|other| height.get(other.as_str())).max().map_or(0, |below| below + 1);

@@ -4,8 +4,11 @@ use std::collections::{BTreeMap, BTreeSet, HashMap};
 use std::fs;
 use std::path::{Path, PathBuf};
 
-/// A module of specifications: the crate, and the path below its `specs/`, as `chain.Chain`.
+/// A module of definitions or lemmas: the crate, and the path below it, as `specs.chain.Chain` or `proofs.Theorem`.
 pub type Module = (String, String);
+
+/// The folders of a crate that have such modules.
+pub const PARTS: [&str; 2] = ["specs", "proofs"];
 
 /// A declaration: of a definition all its lines, of a law the statement alone.
 #[derive(Clone, Debug, Default)]
@@ -34,13 +37,13 @@ pub struct Source {
     pub aliases: HashMap<String, Module>,
 }
 
-/// Every module of specifications below `crates/`.
+/// Every module of definitions or lemmas below `crates/`.
 pub fn read_all(root: &Path) -> BTreeMap<Module, Source> {
     let mut all = BTreeMap::new();
-    for name in crates(root) {
-        let specs = root.join("crates").join(&name).join("specs");
-        for path in files(&specs) {
-            let below = path.strip_prefix(&specs).expect("it lies below").with_extension("");
+    for (name, _) in crates(root) {
+        let home = root.join("crates").join(&name);
+        for path in PARTS.iter().flat_map(|part| files(&home.join(part))) {
+            let below = path.strip_prefix(&home).expect("it lies below").with_extension("");
             let module: Vec<_> = below.iter().map(|part| part.to_string_lossy().into_owned()).collect();
             let text = fs::read_to_string(&path).expect("a readable file");
             let mut source = Source { path: path.strip_prefix(root).expect("below").into(), ..Source::default() };
@@ -52,11 +55,12 @@ pub fn read_all(root: &Path) -> BTreeMap<Module, Source> {
     all
 }
 
-/// The crates of crates.txt, in its order.
-pub fn crates(root: &Path) -> Vec<String> {
+/// The crates of crates.txt, in its order, with those that each names. A static library says so behind its name.
+pub fn crates(root: &Path) -> Vec<(String, Vec<String>)> {
     let text = fs::read_to_string(root.join("crates.txt")).expect("crates.txt");
-    let lines = text.lines().filter(|line| !line.starts_with('#'));
-    lines.filter_map(|line| line.split_once(':')).map(|(name, _)| name.to_string()).collect()
+    let lines = text.lines().filter(|line| !line.starts_with('#')).filter_map(|line| line.split_once(':'));
+    let words = |list: &str| list.split_whitespace().map(str::to_string).collect();
+    lines.map(|(said, list)| (said.strip_suffix(" staticlib").unwrap_or(said).to_string(), words(list))).collect()
 }
 
 fn files(folder: &Path) -> Vec<PathBuf> {
@@ -72,11 +76,11 @@ fn files(folder: &Path) -> Vec<PathBuf> {
     found
 }
 
-/// The module that a path names, as `Rattle·octets.specs.le.Le` or, inside the crate, `Rattle·octets·specs.specs.le.Le`.
+/// The module that a path names, as `Rattle.octets.specs.le.Le`.
 fn module(path: &str) -> Option<Module> {
-    let (name, rest) = path.strip_prefix("Rattle·")?.split_once(['·', '.'])?;
-    let below = rest.strip_prefix("specs.specs.").or_else(|| rest.strip_prefix("specs."))?;
-    Some((name.to_string(), below.to_string()))
+    let (name, below) = path.strip_prefix("Rattle.")?.split_once('.')?;
+    let (part, _) = below.split_once('.')?;
+    PARTS.contains(&part).then(|| (name.to_string(), below.to_string()))
 }
 
 /// The names that the lines with this beginning bring in, and the modules that they name.
