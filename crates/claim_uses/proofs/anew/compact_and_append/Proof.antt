@@ -19,7 +19,7 @@ module _ (a : tie.In-At-a) where
   inside : a.in-At-a.last ≤ length a.append-a.new.buf
   inside =
       end_inside a.args.file.now _ _ _ a.args.batch.now a.args.retire.now a.args.timestamp
-      a.fits.timestamp.fits bytes _ _ _ _ _ _ _ _ a.in-At.is a.in-At-a.is a.compact-c.ensures.0
+      a.ranges.timestamp.fits bytes _ _ _ _ _ _ _ _ a.in-At.is a.in-At-a.is a.compact-c.ensures.0
       a.compact-c.ensures.1 a.append-a.ensures
 
 slice-reshare-prefix-open : tie.Need-slice_bounds-open-end
@@ -46,7 +46,7 @@ returns-3 c =
     let a = c in
     way_opened a.args.file.now _ _ _ a.args.batch.now a.args.retire.now a.args.timestamp
     a.ranges.timestamp.fits (bytes c.before) _ _ _ _ _ _ _ _ a.in-At.is a.in-At-a.is a.compact-c.ensures.0
-    a.compact-c.ensures.1 a.append-a.ensures _ c.«open».ensures
+    a.compact-c.ensures.1 a.append-a.ensures _ c.open-o.ensures
 
 pub compact_and_append_spec : {M : Type 1} → statement M
 compact_and_append_spec =

@@ -14,7 +14,7 @@ module _ (b : tie.In-At-b) where
   inside : b.in-At-b.last ≤ length b.append-b.new.buf
   inside =
       end_inside b.args.buf.now _ _ b.args.first.now b.args.second.now b.args.retire.now
-      b.args.timestamp b.fits.timestamp.fits _ _ _ _ _ _ _ _ b.in-At.is b.in-At-b.is
+      b.args.timestamp b.ranges.timestamp.fits _ _ _ _ _ _ _ _ b.in-At.is b.in-At-b.is
       b.append-a.ensures b.append-b.ensures
 
 slice-reshare-prefix-open : tie.Need-slice_bounds-open-end
@@ -40,9 +40,9 @@ returns-3 c =
     let f = b in
     let s = b in
     way_long s.args.buf.now _ _ s.args.first.now s.args.second.now s.args.retire.now
-    s.args.timestamp s.fits.timestamp.fits _ _ _ _ _ _ _ _ a.in-At.is b.in-At-b.is
+    s.args.timestamp s.ranges.timestamp.fits _ _ _ _ _ _ _ _ a.in-At.is b.in-At-b.is
     f.append-a.ensures b.append-b.ensures _
-    (sym c.before.«open».ensures ∙ c.in-Refused-o.is)
+    (sym c.before.open-o.ensures ∙ c.in-Refused-o.is)
 
 returns-4 : tie.Need-returns-in-NoManifest
 returns-4 c =
@@ -51,9 +51,9 @@ returns-4 c =
     let f = b in
     let s = b in
     way_none s.args.buf.now _ _ s.args.first.now s.args.second.now s.args.retire.now
-    s.args.timestamp s.fits.timestamp.fits _ _ _ _ _ _ _ _ a.in-At.is b.in-At-b.is
+    s.args.timestamp s.ranges.timestamp.fits _ _ _ _ _ _ _ _ a.in-At.is b.in-At-b.is
     f.append-a.ensures b.append-b.ensures _
-    (sym c.before.«open».ensures ∙ c.in-NoManifest.is)
+    (sym c.before.open-o.ensures ∙ c.in-NoManifest.is)
 
 returns-5 : tie.Need-returns-in-At-o
 returns-5 c =
@@ -63,9 +63,9 @@ returns-5 c =
     let f = b in
     let s = b in
     way_at s.args.buf.now _ _ s.args.first.now s.args.second.now s.args.retire.now
-    s.args.timestamp s.fits.timestamp.fits _ _ _ _ _ _ _ _ a.in-At.is b.in-At-b.is
+    s.args.timestamp s.ranges.timestamp.fits _ _ _ _ _ _ _ _ a.in-At.is b.in-At-b.is
     f.append-a.ensures b.append-b.ensures _ _ _ _ _
-    (sym o.«open».ensures ∙ c.in-At-o.is)
+    (sym o.open-o.ensures ∙ c.in-At-o.is)
 
 pub append_twice_spec : {M : Type 1} → statement M
 append_twice_spec =

@@ -38,13 +38,13 @@ element-write-out-6 : tie.Need-bounds-out-4-in-At
 element-write-out-6 c = lit< tt
 
 returns : tie.Need-returns-in-Refused
-returns c = out_refused _ _ _ (sym c.in-Refused.is ∙ c.before.«open».ensures)
+returns c = out_refused _ _ _ (sym c.in-Refused.is ∙ c.before.open-o.ensures)
 
 returns-2 : tie.Need-returns-in-NoManifest
-returns-2 c = out_none _ _ _ (sym c.in-NoManifest.is ∙ c.before.«open».ensures)
+returns-2 c = out_none _ _ _ (sym c.in-NoManifest.is ∙ c.before.open-o.ensures)
 
 returns-3 : tie.Need-returns-in-At
-returns-3 c = out_opened _ _ _ _ _ _ _ (sym c.in-At.is ∙ c.before.«open».ensures)
+returns-3 c = out_opened _ _ _ _ _ _ _ (sym c.in-At.is ∙ c.before.open-o.ensures)
 
 pub rvf_open_spec : {M : Type 1} → statement M
 rvf_open_spec =
