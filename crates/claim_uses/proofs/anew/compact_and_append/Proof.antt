@@ -46,7 +46,7 @@ returns-3 c =
     let a = c in
     way_opened a.args.file.now _ _ _ a.args.batch.now a.args.retire.now a.args.timestamp
     a.ranges.timestamp.fits (bytes c.before) _ _ _ _ _ _ _ _ a.in-At.is a.in-At-a.is a.compact-c.ensures.0
-    a.compact-c.ensures.1 a.append-a.ensures _ c.open-o.ensures
+    a.compact-c.ensures.1 a.append-a.ensures _ c.«open».ensures
 
 pub compact_and_append_spec : {M : Type 1} → statement M
 compact_and_append_spec =
