@@ -19,19 +19,16 @@ use Rattle.append.proofs.append.Tie as tie
 
 returns : tie.Need-returns-then-n-buf
 returns c =
-    let s = c in
-    way_room s.args.buf.now s.args.n s.args.batch.now s.args.ids.now s.args.timestamp (omega (arith, c.if-n-buf.true))
+    way_room c.args.buf.now c.args.n c.args.batch.now c.args.ids.now c.args.timestamp (omega (arith, c.if-n-buf.true))
 
 returns-2 : tie.Need-returns-then-n
 returns-2 c =
-    let s = c in
-    way_limit s.args.buf.now s.args.n s.args.batch.now s.args.ids.now s.args.timestamp
+    way_limit c.args.buf.now c.args.n c.args.batch.now c.args.ids.now c.args.timestamp
     (omega (arith, c.if-n-buf.false)) (omega (arith, c.if-n.true))
 
 slice-aggregate-open-with : tie.Need-slice_bounds-open_with-end-2
 slice-aggregate-open-with c =
-    let s = c in
-    sym (length-take-le s.args.n s.args.buf.now (omega (arith, c.if-n-buf.false)))
+    sym (length-take-le c.args.n c.args.buf.now (omega (arith, c.if-n-buf.false)))
 
 -- Where the file is opened.
 -- Where the batch is taken: the place before its test, in a file without a manifest and in one with it.
@@ -56,152 +53,103 @@ module _ (f : tie.In-At) where
 returns-3 : tie.Need-returns-then-size-gt0
 returns-3 c =
     let n = none_found c.before in
-    let e2 = c in
-    let s = e2 in
-    way_none s.args.buf.now s.args.n s.args.batch.now s.args.ids.now s.args.timestamp
-    (omega (arith, e2.if-n-buf.false)) (omega (arith, e2.if-n.false)) n (omega (arith, c.if-size-gt0.true))
+    way_none c.args.buf.now c.args.n c.args.batch.now c.args.ids.now c.args.timestamp
+    (omega (arith, c.if-n-buf.false)) (omega (arith, c.if-n.false)) n (omega (arith, c.if-size-gt0.true))
 
 returns-4 : tie.Need-returns-then-bad-ne0
 returns-4 c =
-    let e3 = c in
-    let e2 = e3 in
-    let s = e2 in
-    way_batch s.args.buf.now s.args.n s.args.batch.now s.args.ids.now s.args.timestamp
-    (omega (arith, e2.if-n-buf.false)) (omega (arith, e2.if-n.false))
-    (λ z. omega (arith, e3.if-size-gt0.false)) _ c.batch_number-bad.ensures.0 c.if-bad-ne0.true
+    way_batch c.args.buf.now c.args.n c.args.batch.now c.args.ids.now c.args.timestamp
+    (omega (arith, c.if-n-buf.false)) (omega (arith, c.if-n.false))
+    (λ z. omega (arith, c.if-size-gt0.false)) _ c.batch_number-bad.ensures.0 c.if-bad-ne0.true
 
 returns-5 : tie.Need-returns-then-ids-gt0
 returns-5 c =
-    let e4 = c in
-    let e3 = e4 in
-    let e2 = e3 in
-    let s = e2 in
-    way_retire s.args.buf.now s.args.n s.args.batch.now s.args.ids.now s.args.timestamp
-    (omega (arith, e2.if-n-buf.false)) (omega (arith, e2.if-n.false)) (λ z. omega (arith, e3.if-size-gt0.false))
-    (sym e4.batch_number-bad.ensures.0 ∙ e4.if-bad-ne0.false) (retire_some _ (none_found c.before.before.before.before.before.before) _ (omega (arith, c.if-ids-gt0.true)))
+    way_retire c.args.buf.now c.args.n c.args.batch.now c.args.ids.now c.args.timestamp
+    (omega (arith, c.if-n-buf.false)) (omega (arith, c.if-n.false)) (λ z. omega (arith, c.if-size-gt0.false))
+    (sym c.batch_number-bad.ensures.0 ∙ c.if-bad-ne0.false) (retire_some _ (none_found c.before.before.before.before.before.before) _ (omega (arith, c.if-ids-gt0.true)))
 
 commit-requires : tie.Need-commit-requires
 commit-requires c κs =
-    let e4 = c in
-    let bn = e4 in
-    let e3 = e4 in
-    let ow = e3 in
-    let e2 = ow in
-    let s = e2 in
-    let z : ◌≡◌ {A = ℕ} 0 s.args.n = omega (arith, e3.if-size-gt0.false) in (
+    let z : ◌≡◌ {A = ℕ} 0 c.args.n = omega (arith, c.if-size-gt0.false) in (
       (
-        taken_held s.args.buf.now s.args.n s.args.batch.now s.args.ids.now s.args.timestamp
-            (omega (arith, e2.if-n-buf.false)) (omega (arith, e2.if-n.false)) (λ z. omega (arith, e3.if-size-gt0.false))
-            (sym bn.batch_number-bad.ensures.0 ∙ e4.if-bad-ne0.false),
-        (ow.open_with-found.auto.offsets, refl),
+        taken_held c.args.buf.now c.args.n c.args.batch.now c.args.ids.now c.args.timestamp
+            (omega (arith, c.if-n-buf.false)) (omega (arith, c.if-n.false)) (λ z. omega (arith, c.if-size-gt0.false))
+            (sym c.batch_number-bad.ensures.0 ∙ c.if-bad-ne0.false),
+        (c.open_with-found.auto.offsets, refl),
       ),
-      (base_empty _ (ap (λ (k : ℕ). opened (take k s.args.buf.now)) z ∙ none_found c.before.before.before.before.before.before.before.before.before.before) _ refl, bn.batch_number-bad.ensures.1 e4.if-bad-ne0.false),
+      (base_empty _ (ap (λ (k : ℕ). opened (take k c.args.buf.now)) z ∙ none_found c.before.before.before.before.before.before.before.before.before.before) _ refl, c.batch_number-bad.ensures.1 c.if-bad-ne0.false),
     )
 
 returns-6 : tie.Need-returns-then-bad-ne0-2
 returns-6 c =
-    let f = c in
-    let e2 = f in
-    let s = e2 in
-    way_batch s.args.buf.now s.args.n s.args.batch.now s.args.ids.now s.args.timestamp
-    (omega (arith, e2.if-n-buf.false)) (omega (arith, e2.if-n.false)) (begins c.before.before.before.before) _ c.batch_number-bad-in-At.ensures.0 c.if-bad-ne0-2.true
+    way_batch c.args.buf.now c.args.n c.args.batch.now c.args.ids.now c.args.timestamp
+    (omega (arith, c.if-n-buf.false)) (omega (arith, c.if-n.false)) (begins c.before.before.before.before) _ c.batch_number-bad-in-At.ensures.0 c.if-bad-ne0-2.true
 
 slice-aggregate-retire-states : tie.Need-slice_bounds-retire_states-end-in-At
 slice-aggregate-retire-states c =
     let e1 = c.before in
-    let s = e1 in
-    sym (length-take-le s.args.n s.args.buf.now (omega (arith, e1.if-n-buf.false)))
+    sym (length-take-le e1.args.n e1.args.buf.now (omega (arith, e1.if-n-buf.false)))
 
 retire-states-requires : tie.Need-retire_states-requires
 retire-states-requires c κs =
-    let f = c in
-    ((omega (arith, f.open_with-found.auto.offsets), refl), (f.open_with-found.ensures.1 (found c.before.before.before.before.before.before).within, found c.before.before.before.before.before.before))
+    ((omega (arith, c.open_with-found.auto.offsets), refl), (c.open_with-found.ensures.1 (found c.before.before.before.before.before.before).within, found c.before.before.before.before.before.before))
 
 returns-7 : tie.Need-returns-then-not-retire_states
 returns-7 c =
-    let e6 = c in
-    let f = e6 in
-    let e2 = f in
-    let s = e2 in
-    way_retire s.args.buf.now s.args.n s.args.batch.now s.args.ids.now s.args.timestamp
-    (omega (arith, e2.if-n-buf.false)) (omega (arith, e2.if-n.false)) (begins c.before.before.before.before.before.before.before.before.before)
-    (sym e6.batch_number-bad-in-At.ensures.0 ∙ e6.if-bad-ne0-2.false) (sym c.retire_states.ensures.0 ∙ c.if-not-retire_states.true)
+    way_retire c.args.buf.now c.args.n c.args.batch.now c.args.ids.now c.args.timestamp
+    (omega (arith, c.if-n-buf.false)) (omega (arith, c.if-n.false)) (begins c.before.before.before.before.before.before.before.before.before)
+    (sym c.batch_number-bad-in-At.ensures.0 ∙ c.if-bad-ne0-2.false) (sym c.retire_states.ensures.0 ∙ c.if-not-retire_states.true)
 
 add-commit : tie.Need-overflow_add-count
 add-commit c =
-    let f = c in
-    let ow = f in
     omega (
       arith,
-      (manifest_room _ _ _ _ (bytes c.before.before.before.before.before.before.before.before.before.before) (ow.open_with-found.ensures.1 (found c.before.before.before.before.before.before.before.before.before.before).within)
-          (omega (arith, ow.open_with-found.auto.offsets)) (found c.before.before.before.before.before.before.before.before.before.before)).1,
+      (manifest_room _ _ _ _ (bytes c.before.before.before.before.before.before.before.before.before.before) (c.open_with-found.ensures.1 (found c.before.before.before.before.before.before.before.before.before.before).within)
+          (omega (arith, c.open_with-found.auto.offsets)) (found c.before.before.before.before.before.before.before.before.before.before)).1,
     )
 
 commit-requires-2 : tie.Need-commit-requires-in-At
 commit-requires-2 c κs =
-    let rs = c in
-    let e6 = rs in
-    let f = e6 in
-    let ow = f in
-    let e2 = ow in
-    let s = e2 in
-    let ends = opened_end _ _ _ _ _ _ (sym ow.open_with-found.ensures.0 ∙ f.in-At.is) in (
+    let ends = opened_end _ _ _ _ _ _ (sym c.open_with-found.ensures.0 ∙ c.in-At.is) in (
       (
-        taken_held s.args.buf.now s.args.n s.args.batch.now s.args.ids.now s.args.timestamp
-            (omega (arith, e2.if-n-buf.false)) (omega (arith, e2.if-n.false)) (begins c.before.before.before.before.before.before.before.before.before.before.before.before.before)
-            (sym e6.batch_number-bad-in-At.ensures.0 ∙ e6.if-bad-ne0-2.false),
-        (ow.open_with-found.auto.offsets, rs.retire_states.auto.states),
+        taken_held c.args.buf.now c.args.n c.args.batch.now c.args.ids.now c.args.timestamp
+            (omega (arith, c.if-n-buf.false)) (omega (arith, c.if-n.false)) (begins c.before.before.before.before.before.before.before.before.before.before.before.before.before)
+            (sym c.batch_number-bad-in-At.ensures.0 ∙ c.if-bad-ne0-2.false),
+        (c.open_with-found.auto.offsets, c.retire_states.auto.states),
       ),
       (
-        base_later _ s.args.buf.now _ s.args.n _ _ _ _ refl (omega (arith, e2.if-n-buf.false)) (bytes c.before.before.before.before.before.before.before.before.before.before.before.before.before)
-            (ow.open_with-found.ensures.1 (found c.before.before.before.before.before.before.before.before.before.before.before.before.before).within) (omega (arith, ow.open_with-found.auto.offsets)) (found c.before.before.before.before.before.before.before.before.before.before.before.before.before) ends.0 ends.1,
-        e6.batch_number-bad-in-At.ensures.1 e6.if-bad-ne0-2.false,
+        base_later _ c.args.buf.now _ c.args.n _ _ _ _ refl (omega (arith, c.if-n-buf.false)) (bytes c.before.before.before.before.before.before.before.before.before.before.before.before.before)
+            (c.open_with-found.ensures.1 (found c.before.before.before.before.before.before.before.before.before.before.before.before.before).within) (omega (arith, c.open_with-found.auto.offsets)) (found c.before.before.before.before.before.before.before.before.before.before.before.before.before) ends.0 ends.1,
+        c.batch_number-bad-in-At.ensures.1 c.if-bad-ne0-2.false,
       ),
     )
 
 returns-8 : tie.Need-returns-in-Refused
 returns-8 c =
-    let ow = c in
-    let e2 = ow in
-    let s = e2 in
-    let r = opened_refused _ _ (sym ow.open_with-found.ensures.0 ∙ c.in-Refused.is) in
-    absurd (omega (arith, r.1, e2.if-n.false, length-take s.args.n s.args.buf.now))
+    let r = opened_refused _ _ (sym c.open_with-found.ensures.0 ∙ c.in-Refused.is) in
+    absurd (omega (arith, r.1, c.if-n.false, length-take c.args.n c.args.buf.now))
 
 returns-9 : tie.Need-returns-else-ids-gt0
 returns-9 c =
-    let f = c in
-    let e5 = f in
-    let e4 = e5 in
-    let e3 = e4 in
-    let e2 = e3 in
-    let s = e2 in
     let nf = none_found c.before.before.before.before.before.before.before.before.before.before.before.before.before.before in
-    let z : ◌≡◌ {A = ℕ} 0 s.args.n = omega (arith, e3.if-size-gt0.false) in
-    way_done s.args.buf.now s.args.n s.args.batch.now s.args.ids.now s.args.timestamp
-    (omega (arith, e2.if-n-buf.false)) (omega (arith, e2.if-n.false)) (λ z. omega (arith, e3.if-size-gt0.false))
-    (sym e4.batch_number-bad.ensures.0 ∙ e4.if-bad-ne0.false) (retire_none _ nf _ (omega (arith, e5.if-ids-gt0.false)))
-    _ _ _ _ (ap (λ (k : ℕ). opened (take k s.args.buf.now)) z) f.commit.ensures.0 f.commit.ensures.1 (states_empty _ nf _ _)
+    let z : ◌≡◌ {A = ℕ} 0 c.args.n = omega (arith, c.if-size-gt0.false) in
+    way_done c.args.buf.now c.args.n c.args.batch.now c.args.ids.now c.args.timestamp
+    (omega (arith, c.if-n-buf.false)) (omega (arith, c.if-n.false)) (λ z. omega (arith, c.if-size-gt0.false))
+    (sym c.batch_number-bad.ensures.0 ∙ c.if-bad-ne0.false) (retire_none _ nf _ (omega (arith, c.if-ids-gt0.false)))
+    _ _ _ _ (ap (λ (k : ℕ). opened (take k c.args.buf.now)) z) c.commit.ensures.0 c.commit.ensures.1 (states_empty _ nf _ _)
 
 returns-10 : tie.Need-returns-else-not-retire_states
 returns-10 c =
-    let fi = c in
-    let e7 = fi in
-    let rs = e7 in
-    let e6 = rs in
-    let f = e6 in
-    let ow = f in
-    let e2 = ow in
-    let s = e2 in
-    let ends = opened_end _ _ _ _ _ _ (sym ow.open_with-found.ensures.0 ∙ f.in-At.is) in
-    way_done s.args.buf.now s.args.n s.args.batch.now s.args.ids.now s.args.timestamp
-    (omega (arith, e2.if-n-buf.false)) (omega (arith, e2.if-n.false)) (begins c.before.before.before.before.before.before.before.before.before.before.before.before.before.before.before.before.before) (sym e6.batch_number-bad-in-At.ensures.0 ∙ e6.if-bad-ne0-2.false)
-    (sym rs.retire_states.ensures.0 ∙ e7.if-not-retire_states.false) _ _ _ _
-    (front_opens _ s.args.buf.now _ s.args.n _ _ _ _ refl (omega (arith, e2.if-n-buf.false)) (bytes c.before.before.before.before.before.before.before.before.before.before.before.before.before.before.before.before.before)
-    (ow.open_with-found.ensures.1 (found c.before.before.before.before.before.before.before.before.before.before.before.before.before.before.before.before.before).within) (omega (arith, ow.open_with-found.auto.offsets)) (found c.before.before.before.before.before.before.before.before.before.before.before.before.before.before.before.before.before) ends.0 ends.1)
-    fi.commit-in-At.ensures.0 fi.commit-in-At.ensures.1
-    (states_later _ s.args.buf.now _ s.args.n _ _ _ _ refl (omega (arith, e2.if-n-buf.false)) (bytes c.before.before.before.before.before.before.before.before.before.before.before.before.before.before.before.before.before)
-    (ow.open_with-found.ensures.1 (found c.before.before.before.before.before.before.before.before.before.before.before.before.before.before.before.before.before).within) (omega (arith, ow.open_with-found.auto.offsets)) (found c.before.before.before.before.before.before.before.before.before.before.before.before.before.before.before.before.before) ends.0 ends.1
-    _ _ _ (rs.retire_states.ensures.1 (e7.if-not-retire_states.false)))
+    let ends = opened_end _ _ _ _ _ _ (sym c.open_with-found.ensures.0 ∙ c.in-At.is) in
+    way_done c.args.buf.now c.args.n c.args.batch.now c.args.ids.now c.args.timestamp
+    (omega (arith, c.if-n-buf.false)) (omega (arith, c.if-n.false)) (begins c.before.before.before.before.before.before.before.before.before.before.before.before.before.before.before.before.before) (sym c.batch_number-bad-in-At.ensures.0 ∙ c.if-bad-ne0-2.false)
+    (sym c.retire_states.ensures.0 ∙ c.if-not-retire_states.false) _ _ _ _
+    (front_opens _ c.args.buf.now _ c.args.n _ _ _ _ refl (omega (arith, c.if-n-buf.false)) (bytes c.before.before.before.before.before.before.before.before.before.before.before.before.before.before.before.before.before)
+    (c.open_with-found.ensures.1 (found c.before.before.before.before.before.before.before.before.before.before.before.before.before.before.before.before.before).within) (omega (arith, c.open_with-found.auto.offsets)) (found c.before.before.before.before.before.before.before.before.before.before.before.before.before.before.before.before.before) ends.0 ends.1)
+    c.commit-in-At.ensures.0 c.commit-in-At.ensures.1
+    (states_later _ c.args.buf.now _ c.args.n _ _ _ _ refl (omega (arith, c.if-n-buf.false)) (bytes c.before.before.before.before.before.before.before.before.before.before.before.before.before.before.before.before.before)
+    (c.open_with-found.ensures.1 (found c.before.before.before.before.before.before.before.before.before.before.before.before.before.before.before.before.before).within) (omega (arith, c.open_with-found.auto.offsets)) (found c.before.before.before.before.before.before.before.before.before.before.before.before.before.before.before.before.before) ends.0 ends.1
+    _ _ _ (c.retire_states.ensures.1 (c.if-not-retire_states.false)))
 
 pub append_spec : {M : Type 1} → statement M
 append_spec =

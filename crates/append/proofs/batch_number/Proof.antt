@@ -13,14 +13,11 @@ returns c = (number_form _ (sym c.check.ensures ∙ c.if-not-check.true), λ z. 
 
 vectors-bad-requires : tie.Need-vectors_bad-requires
 vectors-bad-requires c κs =
-    let e = c in
-    (sym e.check.ensures ∙ e.if-not-check.false, omega arith)
+    (sym c.check.ensures ∙ c.if-not-check.false, omega arith)
 
 returns-2 : tie.Need-returns
 returns-2 c =
-    let v = c in
-    let e = v in
-    (number_vectors _ _ (sym e.check.ensures ∙ e.if-not-check.false) v.vectors_bad.ensures.0, v.vectors_bad.ensures.1)
+    (number_vectors _ _ (sym c.check.ensures ∙ c.if-not-check.false) c.vectors_bad.ensures.0, c.vectors_bad.ensures.1)
 
 pub batch_number_spec : {M : Type 1} → statement M
 batch_number_spec = tie.close (tie.spec

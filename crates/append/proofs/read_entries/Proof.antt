@@ -25,34 +25,27 @@ u64-at-requires c κs = omega (arith, c.requires.1 c.loop-i.i (omega arith))
 
 mul-entry-ids : tie.Need-offset_bounds-entry_ids-i invariant-loop-i decreases-loop-i
 mul-entry-ids c =
-    let l = c in
-    omega (arith, l.loop-i.invariant.ids_long, l.requires.0.0)
+    omega (arith, c.loop-i.invariant.ids_long, c.requires.0.0)
 
 slice-write-entry-ids : tie.Need-bounds-entry_ids-i invariant-loop-i decreases-loop-i
 slice-write-entry-ids c =
-    let l = c in
-    omega (arith, l.loop-i.invariant.ids_long, l.requires.0.0)
+    omega (arith, c.loop-i.invariant.ids_long, c.requires.0.0)
 
 add-kinds : tie.Need-overflow_add-kinds invariant-loop-i decreases-loop-i
 add-kinds c =
-    let l = c in
-    omega (arith, l.requires.1 l.loop-i.i (omega arith))
+    omega (arith, c.requires.1 c.loop-i.i (omega arith))
 
 shared-slice-read-kinds : tie.Need-bounds-file-offset invariant-loop-i decreases-loop-i
 shared-slice-read-kinds c =
-    let l = c in
-    omega (arith, l.requires.1 l.loop-i.i (omega arith))
+    omega (arith, c.requires.1 c.loop-i.i (omega arith))
 
 slice-write-kinds : tie.Need-bounds-kinds-i invariant-loop-i decreases-loop-i
 slice-write-kinds c =
-    let l = c in
-    omega (arith, l.loop-i.invariant.kinds_long, l.requires.0.1)
+    omega (arith, c.loop-i.invariant.kinds_long, c.requires.0.1)
 
 loop-again : tie.Need-loop-i-preserved invariant-loop-i decreases-loop-i
 loop-again c =
-    let l = c in
-    let s = l in
-    read_next _ _ _ _ _ _ _ l.loop-i.invariant (omega arith) s.requires.0.0 s.requires.0.1 _ c.u64_at.ensures
+    read_next _ _ _ _ _ _ _ c.loop-i.invariant (omega arith) c.requires.0.0 c.requires.0.1 _ c.u64_at.ensures
 
 returns : tie.Need-returns invariant-loop-i decreases-loop-i
 returns c = read_last _ _ _ _ _ _ _ c.loop-i.invariant (omega arith)

@@ -14,9 +14,8 @@ use Rattle.append.proofs.retire_states.Tie as tie
 -- Where the file's bytes are known: the manifest's header lies in the file, and its entries are few.
 room : (k : tie.After-shared_slice_known-1) → (k.args.manifest + 64 ≤ length k.args.file.now) × (k.args.count ≤ 1024)
 room k =
-    let s = k in
-    manifest_room s.args.file.now s.args.offsets.now s.args.manifest s.args.count
-    (λ j. omega (arith, k.shared_slice_known-1.given j)) s.requires.1.0 s.requires.0.0 s.requires.1.1
+    manifest_room k.args.file.now k.args.offsets.now k.args.manifest k.args.count
+    (λ j. omega (arith, k.shared_slice_known-1.given j)) k.requires.1.0 k.requires.0.0 k.requires.1.1
 
 -- Where the payload's length is read: the payload is the file's part behind the header.
 module _ (u : tie.After-u64_at) where
@@ -53,102 +52,81 @@ u64-at-requires c κs = omega (arith, room c.before.before.before)
 
 read-states-requires : tie.Need-read_states-requires
 read-states-requires c κs =
-    let u = c in
-    let e : begin c.before.before + u.u64_at.result - begin c.before.before ≡ u.u64_at.result = omega arith in
+    let e : begin c.before.before + c.u64_at.result - begin c.before.before ≡ c.u64_at.result = omega arith in
     let n =
-    length-take-le (begin c.before.before + u.u64_at.result - begin c.before.before) (drop (begin c.before.before) u.args.file.now)
-    (omega (arith, part c.before.before, length-drop (begin c.before.before) u.args.file.now)) in
-    (omega (arith, (room c.before.before.before.before.before.before).1, ap length u.requires.0.1, length-replicate {A = ℕ} 1024 0), omega (arith, n, e, part c.before.before))
+    length-take-le (begin c.before.before + c.u64_at.result - begin c.before.before) (drop (begin c.before.before) c.args.file.now)
+    (omega (arith, part c.before.before, length-drop (begin c.before.before) c.args.file.now)) in
+    (omega (arith, (room c.before.before.before.before.before.before).1, ap length c.requires.0.1, length-replicate {A = ℕ} 1024 0), omega (arith, n, e, part c.before.before))
 
 slice-aggregate-read-entries : tie.Need-slice_bounds-read_entries-end
 slice-aggregate-read-entries c =
-    let k = c in
-    let s = k in
-    sym (length-take-le s.args.count s.args.offsets.now (omega (arith, (room c.before.before.before.before.before.before.before.before.before).1, s.requires.0.0)))
+    sym (length-take-le c.args.count c.args.offsets.now (omega (arith, (room c.before.before.before.before.before.before.before.before.before).1, c.requires.0.0)))
 
 read-entries-requires : tie.Need-read_entries-requires
 read-entries-requires c κs =
-    let k = c in
-    let s = k in
-    let file = s.args.file.now in
-    let offsets = s.args.offsets.now in
-    let os-count = length-take-le s.args.count offsets (omega (arith, (room c.before.before.before.before.before.before.before.before.before.before.before).1, s.requires.0.0)) in (
+    let file = c.args.file.now in
+    let offsets = c.args.offsets.now in
+    let os-count = length-take-le c.args.count offsets (omega (arith, (room c.before.before.before.before.before.before.before.before.before.before.before).1, c.requires.0.0)) in (
       (omega (arith, os-count, (room c.before.before.before.before.before.before.before.before.before.before.before).1), omega (arith, os-count, (room c.before.before.before.before.before.before.before.before.before.before.before).1)),
-      entries_inside file s.args.manifest s.args.count s.requires.1.1 (take s.args.count offsets)
-          (before_offsets file offsets s.args.manifest s.args.count
-          (λ j. omega (arith, k.shared_slice_known-1.given j)) s.requires.1.0 s.requires.0.0 s.requires.1.1),
+      entries_inside file c.args.manifest c.args.count c.requires.1.1 (take c.args.count offsets)
+          (before_offsets file offsets c.args.manifest c.args.count
+          (λ j. omega (arith, c.shared_slice_known-1.given j)) c.requires.1.0 c.requires.0.0 c.requires.1.1),
     )
 
 array-share-prefix-entry-ids : tie.Need-slice_bounds-entry_ids-end
 array-share-prefix-entry-ids c =
-    let k = c in
     omega (arith, (room c.before.before.before.before.before.before.before.before.before.before.before.before.before.before).1)
 
 slice-aggregate-mark : tie.Need-slice_bounds-mark-end
 slice-aggregate-mark c =
-    let re = c in
-    let k = re in
-    let count = k.args.count in
-    let h : count ≤ length re.read_entries.new.entry_ids = omega (arith, (room c.before.before.before.before.before.before.before.before.before.before.before.before.before.before.before).1, re.read_entries.auto.entry_ids) in
-    sym (length-take-le count re.read_entries.new.entry_ids h)
+    let count = c.args.count in
+    let h : count ≤ length c.read_entries.new.entry_ids = omega (arith, (room c.before.before.before.before.before.before.before.before.before.before.before.before.before.before.before).1, c.read_entries.auto.entry_ids) in
+    sym (length-take-le count c.read_entries.new.entry_ids h)
 
 array-share-prefix-kinds : tie.Need-slice_bounds-kinds-end
 array-share-prefix-kinds c =
-    let k = c in
     omega (arith, (room c.before.before.before.before.before.before.before.before.before.before.before.before.before.before.before).1)
 
 slice-aggregate-mark-2 : tie.Need-slice_bounds-mark-end-2
 slice-aggregate-mark-2 c =
-    let re = c in
-    let k = re in
-    let count = k.args.count in
-    let h : count ≤ length re.read_entries.new.kinds = omega (arith, (room c.before.before.before.before.before.before.before.before.before.before.before.before.before.before.before.before).1, re.read_entries.auto.kinds) in
-    sym (length-take-le count re.read_entries.new.kinds h)
+    let count = c.args.count in
+    let h : count ≤ length c.read_entries.new.kinds = omega (arith, (room c.before.before.before.before.before.before.before.before.before.before.before.before.before.before.before.before).1, c.read_entries.auto.kinds) in
+    sym (length-take-le count c.read_entries.new.kinds h)
 
 slice-relend-prefix-mark : tie.Need-slice_bounds-mark-end-3
 slice-relend-prefix-mark c = states-long c.before.before.before.before.before.before.before.before.before
 
 slice-aggregate-mark-3 : tie.Need-slice_bounds-mark-end-4
 slice-aggregate-mark-3 c =
-    let rs = c in
-    sym (length-take-le rs.args.count rs.read_states.new.states (states-long c.before.before.before.before.before.before.before.before.before.before))
+    sym (length-take-le c.args.count c.read_states.new.states (states-long c.before.before.before.before.before.before.before.before.before.before))
 
 mark-requires : tie.Need-mark-requires
 mark-requires c κs =
-    let re = c in
-    let rs = re in
-    let k = rs in
-    let s = k in
-    let count = s.args.count in
-    let file = s.args.file.now in
-    let manifest = s.args.manifest in
-    let offsets = s.args.offsets.now in
-    let bo = before_offsets file offsets manifest count (λ j. omega (arith, k.shared_slice_known-1.given j))
-    s.requires.1.0 s.requires.0.0 s.requires.1.1 in
-    lists_even file manifest count s.requires.1.1 (take count offsets) bo
-    _ re.read_entries.new.entry_ids _ re.read_entries.new.kinds _ rs.read_states.new.states _
-    re.read_entries.ensures.0 re.read_entries.ensures.1 rs.read_states.ensures (part-is c.before.before.before.before.before.before.before.before.before.before.before.before.before)
+    let count = c.args.count in
+    let file = c.args.file.now in
+    let manifest = c.args.manifest in
+    let offsets = c.args.offsets.now in
+    let bo = before_offsets file offsets manifest count (λ j. omega (arith, c.shared_slice_known-1.given j))
+    c.requires.1.0 c.requires.0.0 c.requires.1.1 in
+    lists_even file manifest count c.requires.1.1 (take count offsets) bo
+    _ c.read_entries.new.entry_ids _ c.read_entries.new.kinds _ c.read_states.new.states _
+    c.read_entries.ensures.0 c.read_entries.ensures.1 c.read_states.ensures (part-is c.before.before.before.before.before.before.before.before.before.before.before.before.before)
 
 returns : tie.Need-returns
 returns c =
-    let m = c in
-    let re = m in
-    let rs = re in
-    let k = rs in
-    let s = k in
-    let count = s.args.count in
-    let file = s.args.file.now in
-    let manifest = s.args.manifest in
-    let offsets = s.args.offsets.now in
-    let bo = before_offsets file offsets manifest count (λ j. omega (arith, k.shared_slice_known-1.given j))
-    s.requires.1.0 s.requires.0.0 s.requires.1.1 in (
-      m.mark.ensures.0 ∙ marks_held file manifest count s.requires.1.1 (take count offsets) bo
-          _ re.read_entries.new.entry_ids _ re.read_entries.new.kinds _ rs.read_states.new.states _
-          re.read_entries.ensures.0 re.read_entries.ensures.1 rs.read_states.ensures (part-is c.before.before.before.before.before.before.before.before.before.before.before.before.before.before.before.before) s.args.ids.now,
-      λ r. marks_laid file manifest count s.requires.1.1 (take count offsets) bo
-          _ re.read_entries.new.entry_ids _ re.read_entries.new.kinds _ rs.read_states.new.states _
-          re.read_entries.ensures.0 re.read_entries.ensures.1 rs.read_states.ensures (part-is c.before.before.before.before.before.before.before.before.before.before.before.before.before.before.before.before) s.args.ids.now
-          _ s.requires.0.1 (room c.before.before.before.before.before.before.before.before.before.before.before.before.before.before.before.before.before.before.before.before).1 (m.mark.ensures.1 r),
+    let count = c.args.count in
+    let file = c.args.file.now in
+    let manifest = c.args.manifest in
+    let offsets = c.args.offsets.now in
+    let bo = before_offsets file offsets manifest count (λ j. omega (arith, c.shared_slice_known-1.given j))
+    c.requires.1.0 c.requires.0.0 c.requires.1.1 in (
+      c.mark.ensures.0 ∙ marks_held file manifest count c.requires.1.1 (take count offsets) bo
+          _ c.read_entries.new.entry_ids _ c.read_entries.new.kinds _ c.read_states.new.states _
+          c.read_entries.ensures.0 c.read_entries.ensures.1 c.read_states.ensures (part-is c.before.before.before.before.before.before.before.before.before.before.before.before.before.before.before.before) c.args.ids.now,
+      λ r. marks_laid file manifest count c.requires.1.1 (take count offsets) bo
+          _ c.read_entries.new.entry_ids _ c.read_entries.new.kinds _ c.read_states.new.states _
+          c.read_entries.ensures.0 c.read_entries.ensures.1 c.read_states.ensures (part-is c.before.before.before.before.before.before.before.before.before.before.before.before.before.before.before.before) c.args.ids.now
+          _ c.requires.0.1 (room c.before.before.before.before.before.before.before.before.before.before.before.before.before.before.before.before.before.before.before.before).1 (c.mark.ensures.1 r),
     )
 
 pub retire_states_spec : {M : Type 1} → statement M

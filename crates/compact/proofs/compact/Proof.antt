@@ -11,10 +11,9 @@ use Rattle.compact.proofs.compact.Tie as tie
 
 compact-from-requires : tie.Need-compact_from-requires
 compact-from-requires c κs =
-    let o = c in
-    let w = manifest_at _ _ _ _ _ (sym o.file_manifest-found.ensures.0 ∙ c.in-At.is) in
+    let w = manifest_at _ _ _ _ _ (sym c.file_manifest-found.ensures.0 ∙ c.in-At.is) in
     let m = opened_at _ _ _ w.0 _ _ w.1 in
-    (omega arith, (o.file_manifest-found.ensures.1 m.within, m))
+    (omega arith, (c.file_manifest-found.ensures.1 m.within, m))
 
 returns : tie.Need-returns-in-Refused
 returns c = compact_refused _ _ _ (sym c.file_manifest-found.ensures.0 ∙ c.in-Refused.is)

@@ -49,8 +49,7 @@ module _ (k : tie.In-Of) where
 -- Where the fresh file's end is known.
 end-new : (r : tie.After-round_up-in-Of) → at r.before.before + 64 + r.round_up-in-Of.result ≡ length (fresh_file r.requires.1.1.found)
 end-new r =
-    let k = r in
-    fresh_ends _ _ _ k.requires.1.1 _ _ (choice r.before.before) (bytes r.before.before) _ _ r.round_up.ensures r.round_up-in-Of.ensures
+    fresh_ends _ _ _ r.requires.1.1 _ _ (choice r.before.before) (bytes r.before.before) _ _ r.round_up.ensures r.round_up-in-Of.ensures
 
 add-round-up-2 : tie.Need-overflow_add-round_up
 add-round-up-2 c = omega (arith, small c.before, c.round_up.ensures, round64_lt (8 + 48 * n c.before))
@@ -60,8 +59,7 @@ round-up-requires-2 c κs = omega (arith, small c.before, c.round_up.ensures, ro
 
 returns : tie.Need-returns-then-end-buf
 returns c =
-    let k = c in
-    compact_short _ _ _ k.requires.1.1 _ _ (choice c.before.before.before) (bytes c.before.before.before) _ _ (end-new c.before) c.if-end-buf.true
+    compact_short _ _ _ c.requires.1.1 _ _ (choice c.before.before.before) (bytes c.before.before.before) _ _ (end-new c.before) c.if-end-buf.true
 
 u64-at-requires : tie.Need-u64_at-id-requires
 u64-at-requires c κs = omega (arith, (link c.before.before.before).room)
@@ -71,39 +69,31 @@ u64-at-requires-2 c κs = omega (arith, (link c.before.before.before.before).roo
 
 slice-relend-prefix-put-file : tie.Need-slice_bounds-put_file-end
 slice-relend-prefix-put-file c =
-    let k = c in
-    omega (arith, small c.before.before.before.before.before.before, k.select-selected.auto.offsets, k.requires.0)
+    omega (arith, small c.before.before.before.before.before.before, c.select-selected.auto.offsets, c.requires.0)
 
 slice-aggregate-put-file : tie.Need-slice_bounds-put_file-end-in-Of
 slice-aggregate-put-file c = sym (count_is c.before.before.before.before.before.before.before)
 
 put-file-requires : tie.Need-put_file-requires
 put-file-requires c κs =
-    let r = c in
-    let k = r in
-    let w = k.requires.1.1 in
+    let w = c.requires.1.1 in
     let st = fresh_standing _ _ (bytes c.before.before.before.before.before.before.before) w.opens (choice c.before.before.before.before.before.before.before).all_whole _ (offsets_are c.before.before.before.before.before.before.before) in
     let en = fresh_end _ _ (bytes c.before.before.before.before.before.before.before) w.opens (choice c.before.before.before.before.before.before.before).all_whole _ (offsets_are c.before.before.before.before.before.before.before) in
-    let pl : round64 (payload_length (length (take (n c.before.before.before.before.before.before.before) k.select-selected.new.offsets))) ≡ round64 (payload_length (n c.before.before.before.before.before.before.before)) =
+    let pl : round64 (payload_length (length (take (n c.before.before.before.before.before.before.before) c.select-selected.new.offsets))) ≡ round64 (payload_length (n c.before.before.before.before.before.before.before)) =
     ap (λ (j : ℕ). round64 (payload_length j)) (count_is c.before.before.before.before.before.before.before) in
-    let pr = payload_round (n c.before.before.before.before.before.before.before) _ _ r.round_up.ensures r.round_up-in-Of.ensures in (
+    let pr = payload_round (n c.before.before.before.before.before.before.before) _ _ c.round_up.ensures c.round_up-in-Of.ensures in (
       (omega (arith, count_is c.before.before.before.before.before.before.before, small c.before.before.before.before.before.before.before), st),
       (((choice c.before.before.before.before.before.before.before).at_is ∙ sym en, (small c.before.before.before.before.before.before.before).1.0), omega (arith, pl, pr)),
     )
 
 returns-2 : tie.Need-returns-in-Damaged
 returns-2 c =
-    let g = c in
-    compact_damaged _ _ _ g.requires.1.1 _ (sym g.select-selected.ensures.0 ∙ c.in-Damaged.is)
+    compact_damaged _ _ _ c.requires.1.1 _ (sym c.select-selected.ensures.0 ∙ c.in-Damaged.is)
 
 returns-3 : tie.Need-returns-else-end-buf
 returns-3 c =
-    let p = c in
-    let u = p in
-    let r = u in
-    let k = r in
-    compact_done _ _ _ k.requires.1.1 _ _ (choice c.before.before.before.before.before.before.before.before.before.before.before.before) (bytes c.before.before.before.before.before.before.before.before.before.before.before.before) _ (link c.before.before.before.before.before.before.before.before.before.before.before.before) _ _ _ _ _ _ (end-new c.before.before.before.before.before.before.before.before.before.before) (omega arith) u.u64_at-id.ensures u.u64_at-timestamp.ensures
-    (offsets_are c.before.before.before.before.before.before.before.before.before.before.before.before) p.put_file.ensures
+    compact_done _ _ _ c.requires.1.1 _ _ (choice c.before.before.before.before.before.before.before.before.before.before.before.before) (bytes c.before.before.before.before.before.before.before.before.before.before.before.before) _ (link c.before.before.before.before.before.before.before.before.before.before.before.before) _ _ _ _ _ _ (end-new c.before.before.before.before.before.before.before.before.before.before) (omega arith) c.u64_at-id.ensures c.u64_at-timestamp.ensures
+    (offsets_are c.before.before.before.before.before.before.before.before.before.before.before.before) c.put_file.ensures
 
 pub compact_from_spec : {M : Type 1} → statement M
 compact_from_spec =

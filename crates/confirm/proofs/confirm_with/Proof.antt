@@ -18,8 +18,7 @@ use Rattle.confirm.proofs.confirm_with.Tie as tie
 
 read-states-requires : tie.Need-read_states-requires
 read-states-requires c κs =
-    let s = c in
-    (s.requires.1.0.1, part_room s.args.file.now s.args.offsets.now s.args.at s.args.len s.requires.0.0 s.requires.0.1)
+    (c.requires.1.0.1, part_room c.args.file.now c.args.offsets.now c.args.at c.args.len c.requires.0.0 c.requires.0.1)
 
 -- Where the states are read: there is one for each offset.
 module _ (rs : tie.After-read_states) where
@@ -32,17 +31,14 @@ slice-aggregate-states-held c = sym (states-count c.before.before)
 
 states-held-requires : tie.Need-states_held-requires
 states-held-requires c κs =
-    let rs = c in
-    (states-count c.before.before, rs.requires.1.1.1)
+    (states-count c.before.before, c.requires.1.1.1)
 
 returns : tie.Need-returns-then-not-states_held
 returns c =
-    let rs = c in
-    let s = rs in
-    let f = s.args.file.now in
-    let os = s.args.offsets.now in
+    let f = c.args.file.now in
+    let os = c.args.offsets.now in
     not_held f os _ _ _
-    (ap (states_held_at f os) (sym (states_are f os s.args.at s.args.len _ rs.read_states.new.states rs.read_states.ensures))
+    (ap (states_held_at f os) (sym (states_are f os c.args.at c.args.len _ c.read_states.new.states c.read_states.ensures))
     ∙ sym c.states_held.ensures ∙ c.if-not-states_held.true)
 
 slice-aggregate-put-payload : tie.Need-slice_bounds-put_payload-end-2
@@ -50,17 +46,13 @@ slice-aggregate-put-payload c = sym (states-count c.before.before.before.before.
 
 put-payload-requires : tie.Need-put_payload-requires
 put-payload-requires c κs =
-    let rs = c in
-    let s = rs in
-    let g = payload_aligned (length s.args.offsets.now) in
-    ((omega (arith, s.requires.0.1, s.requires.1.1.0), omega (arith, states-count c.before.before.before.before.before)), (s.requires.1.1.1, omega (arith, s.requires.0.0, s.requires.0.1)))
+    let g = payload_aligned (length c.args.offsets.now) in
+    ((omega (arith, c.requires.0.1, c.requires.1.1.0), omega (arith, states-count c.before.before.before.before.before)), (c.requires.1.1.1, omega (arith, c.requires.0.0, c.requires.0.1)))
 
 slice-aggregate-same : tie.Need-slice_bounds-same-end-3
 slice-aggregate-same c =
-    let pp = c in
-    let s = pp in
-    let h : s.args.len ≤ length pp.put_payload.new.buf = omega (arith, pp.put_payload.auto.buf, s.requires.1.1.0) in
-    sym (length-take-le s.args.len pp.put_payload.new.buf h)
+    let h : c.args.len ≤ length c.put_payload.new.buf = omega (arith, c.put_payload.auto.buf, c.requires.1.1.0) in
+    sym (length-take-le c.args.len c.put_payload.new.buf h)
 
 -- Where the payload is compared: each state is held, and what the comparison says.
 module _ (sm : tie.After-same) where
@@ -84,8 +76,7 @@ module _ (sm : tie.After-same) where
 
   held : states_held_at f os (states_read_at f os at len) ≡ true
   held =
-      let e1 = sm in
-      ap (states_held_at f os) (sym states) ∙ sym e1.states_held.ensures ∙ e1.if-not-states_held.false
+      ap (states_held_at f os) (sym states) ∙ sym sm.states_held.ensures ∙ sm.if-not-states_held.false
 
   same-is : sm.same.result ≡ same_bytes (payload_in f at len) (payload_at f os (states_read_at f os at len) at id)
   same-is =
@@ -93,25 +84,19 @@ module _ (sm : tie.After-same) where
 
 returns-2 : tie.Need-returns-then-not-same
 returns-2 c =
-    let sm = c in
     other_payload (f c.before) (os c.before) (at c.before) (len c.before) (id c.before) (sym (same-is c.before) ∙ c.if-not-same.true)
 
 payload-sum-requires : tie.Need-payload_sum-sum-requires
 payload-sum-requires c κs =
-    let e2 = c in
-    let sm = e2 in
-    part_rooted (f c.before.before) (os c.before.before) (at c.before.before) (len c.before.before) (id c.before.before) (sym (same-is c.before.before) ∙ e2.if-not-same.false)
+    part_rooted (f c.before.before) (os c.before.before) (at c.before.before) (len c.before.before) (id c.before.before) (sym (same-is c.before.before) ∙ c.if-not-same.false)
 
 is-whole-by-requires : tie.Need-is_whole_by-requires
 is-whole-by-requires c κs =
-    let sm = c in
-    (sm.requires.0.0, part_sum (f c.before.before.before) (os c.before.before.before) (at c.before.before.before) (len c.before.before.before) _ c.payload_sum-sum.ensures)
+    (c.requires.0.0, part_sum (f c.before.before.before) (os c.before.before.before) (at c.before.before.before) (len c.before.before.before) _ c.payload_sum-sum.ensures)
 
 returns-3 : tie.Need-returns
 returns-3 c =
-    let e2 = c in
-    let sm = e2 in
-    by_hash (f c.before.before.before.before) (os c.before.before.before.before) (at c.before.before.before.before) (len c.before.before.before.before) (id c.before.before.before.before) _ sm.requires.1.0.0 (held c.before.before.before.before) (sym (same-is c.before.before.before.before) ∙ e2.if-not-same.false) c.is_whole_by.ensures
+    by_hash (f c.before.before.before.before) (os c.before.before.before.before) (at c.before.before.before.before) (len c.before.before.before.before) (id c.before.before.before.before) _ c.requires.1.0.0 (held c.before.before.before.before) (sym (same-is c.before.before.before.before) ∙ c.if-not-same.false) c.is_whole_by.ensures
 
 pub confirm_with_spec : {M : Type 1} → statement M
 confirm_with_spec =

@@ -19,9 +19,8 @@ returns c = other_kind _ _ _ _ _ _ c.if-kind-ne-KIND.true
 
 returns-2 : tie.Need-returns-then-n-gt-MAX_ENTRIES
 returns-2 c =
-    let s = c in
-    let e = length-take-le s.args.n s.args.offsets.now s.requires.0.0 in
-    let h : 1024 < length (take s.args.n s.args.offsets.now) = omega (arith, e) in
+    let e = length-take-le c.args.n c.args.offsets.now c.requires.0.0 in
+    let h : 1024 < length (take c.args.n c.args.offsets.now) = omega (arith, e) in
     too_many _ _ _ _ _ _ h
 
 add-if3 : tie.Need-overflow_add-round_up
@@ -31,34 +30,28 @@ add-if3 c = omega (arith, c.round_up.ensures)
 returns-3 : tie.Need-returns-then-len-round_up
 unfolding payload_length record_by
 returns-3 c =
-    let s = c in
-    let e = length-take-le s.args.n s.args.offsets.now s.requires.0.0 in
-    other_length _ _ _ _ _ _ s.requires.0.1 s.requires.1
+    let e = length-take-le c.args.n c.args.offsets.now c.requires.0.0 in
+    other_length _ _ _ _ _ _ c.requires.0.1 c.requires.1
     (λ q. c.if-len-round_up.true (q ∙ ap (λ (m : ℕ). round64 (8 + 48 * m) + 4096) e ∙ ap (λ (m : ℕ). m + 4096) (sym c.round_up.ensures)))
 
 slice-aggregate-confirm-with : tie.Need-slice_bounds-confirm_with-end
 slice-aggregate-confirm-with c =
-    let s = c in
-    sym (length-take-le s.args.n s.args.offsets.now s.requires.0.0)
+    sym (length-take-le c.args.n c.args.offsets.now c.requires.0.0)
 
 confirm-with-requires : tie.Need-confirm_with-requires
 unfolding payload_length record_by round64
 confirm-with-requires c κs =
-    let e3 = c in
-    let s = e3 in
-    let n = s.args.n in
-    let e : length (take n s.args.offsets.now) ≡ n = length-take-le n s.args.offsets.now s.requires.0.0 in
-    let r = e3.round_up.ensures in
-    let l = e3.if-len-round_up.false in
-    ((s.requires.0.1, omega (arith, e, r, l)), ((omega (arith, e), omega (arith, e)), (omega (arith, r, l), s.requires.1)))
+    let n = c.args.n in
+    let e : length (take n c.args.offsets.now) ≡ n = length-take-le n c.args.offsets.now c.requires.0.0 in
+    let r = c.round_up.ensures in
+    let l = c.if-len-round_up.false in
+    ((c.requires.0.1, omega (arith, e, r, l)), ((omega (arith, e), omega (arith, e)), (omega (arith, r, l), c.requires.1)))
 
 returns-4 : tie.Need-returns
 returns-4 c =
-    let e1 = c in
-    let s = e1 in
     c.confirm_with.ensures
-    ∙ ap (λ (k : ℕ). confirmed_at s.args.file.now (take s.args.n s.args.offsets.now) s.args.at
-    s.args.len k s.args.id) (sym e1.if-kind-ne-KIND.false)
+    ∙ ap (λ (k : ℕ). confirmed_at c.args.file.now (take c.args.n c.args.offsets.now) c.args.at
+    c.args.len k c.args.id) (sym c.if-kind-ne-KIND.false)
 
 pub is_confirmed_spec : {M : Type 1} → statement M
 is_confirmed_spec =

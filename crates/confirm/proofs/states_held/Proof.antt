@@ -24,19 +24,16 @@ add-kind c = omega (arith, c.requires.1 c.loop-i.i (omega arith))
 
 shared-slice-read-kind : tie.Need-bounds-file-offset invariant-loop-i decreases-loop-i
 shared-slice-read-kind c =
-    let l = c in
-    omega (arith, l.requires.1 l.loop-i.i (omega arith))
+    omega (arith, c.requires.1 c.loop-i.i (omega arith))
 
 returns : tie.Need-returns-then-not-state_held invariant-loop-i decreases-loop-i
 returns c =
-    let l = c in
-    held_stop _ _ _ l.requires.0 l.loop-i.i l.loop-i.invariant (omega arith)
+    held_stop _ _ _ c.requires.0 c.loop-i.i c.loop-i.invariant (omega arith)
     (sym c.state_held.ensures ∙ c.if-not-state_held.true)
 
 loop-again : tie.Need-loop-i-preserved invariant-loop-i decreases-loop-i
 loop-again c =
-    let l = c in
-    held_next _ _ _ l.requires.0 l.loop-i.i l.loop-i.invariant (omega arith)
+    held_next _ _ _ c.requires.0 c.loop-i.i c.loop-i.invariant (omega arith)
     (sym c.state_held.ensures ∙ c.if-not-state_held.false)
 
 returns-2 : tie.Need-returns invariant-loop-i decreases-loop-i

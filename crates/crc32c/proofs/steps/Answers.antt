@@ -15,11 +15,13 @@ pub loop-i-preserved : goal.loop-i-preserved
 loop-i-preserved c =
     let l = c.loop-i in
     let a = c.args in
-    let h : l.i < a.k = omega arith in
-    (omega arith, elim c.if-register-eq1.branch [
-      then-register-eq1 w ↦ rw w.register-is (step_odd a.p a.k l.i l.register _ h w.if-register-eq1.true refl ∙ l.invariant.1)
-    | else-register-eq1 w ↦ rw w.register-is (step_even a.p a.k l.i l.register _ h w.if-register-eq1.false refl ∙ l.invariant.1)
-    ])
+    let h : l.i < a.k = omega arith in (
+      omega arith,
+      elim c.if-register-eq1.branch [
+        | then-register-eq1 w ↦ rw w.register-is (step_odd a.p a.k l.i l.register _ h w.if-register-eq1.true refl ∙ l.invariant.1)
+        | else-register-eq1 w ↦ rw w.register-is (step_even a.p a.k l.i l.register _ h w.if-register-eq1.false refl ∙ l.invariant.1)
+      ],
+    )
 
 pub returns : goal.returns
 returns c =

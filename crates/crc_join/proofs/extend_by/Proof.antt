@@ -15,8 +15,7 @@ cast-result c =
 
 returns-3 : tie.Need-returns
 returns-3 c =
-    let s = c in
-    extended_joined s.args.sum s.args.known s.args.«data».now c.zeros.result _ s.requires c.zeros.ensures.0 refl
+    extended_joined c.args.sum c.args.known c.args.«data».now c.zeros.result _ c.requires c.zeros.ensures.0 refl
 
 pub extend_by_spec : {M : Type 1} → statement M
 extend_by_spec =

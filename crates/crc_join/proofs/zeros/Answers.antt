@@ -44,12 +44,12 @@ loop-m-preserved c =
       room_half l.m l.j h l.invariant.0,
       (
         elim c.if-m-eq1.branch [
-          then-m-eq1 w ↦ rw w.x-is (on_by_lt l.x l.j _ h l.invariant.1.0 w.times-x.ensures)
-        | else-m-eq1 w ↦ omega arith
+          | then-m-eq1 w ↦ rw w.x-is (on_by_lt l.x l.j _ h l.invariant.1.0 w.times-x.ensures)
+          | else-m-eq1 w ↦ omega arith
         ],
         elim c.if-m-eq1.branch [
-          then-m-eq1 w ↦ rw w.x-is (zeros_one l.x l.m l.j _ h l.invariant.1.0 w.if-m-eq1.true w.times-x.ensures ∙ l.invariant.1.1)
-        | else-m-eq1 w ↦ zeros_none l.x l.m l.j c.if-m-eq1.x w.if-m-eq1.false w.x-is ∙ l.invariant.1.1
+          | then-m-eq1 w ↦ rw w.x-is (zeros_one l.x l.m l.j _ h l.invariant.1.0 w.if-m-eq1.true w.times-x.ensures ∙ l.invariant.1.1)
+          | else-m-eq1 w ↦ zeros_none l.x l.m l.j c.if-m-eq1.x w.if-m-eq1.false w.x-is ∙ l.invariant.1.1
         ],
       ),
     )

@@ -23,15 +23,14 @@ loop-holds c = (search rules, (refl, sym (over_none _ 0)))
 
 loop-again : tie.Need-loop-i-preserved invariant-loop-i decreases-loop-i
 loop-again c =
-    let l = c in
-    let i = l.loop-i.i in
-    let from = l.args.from.now in
+    let i = c.loop-i.i in
+    let from = c.args.from.now in
     let h : i < length from = omega arith in (
       search rules,
       (
         search rules,
         rw (add-one, take-suc from i 0 h)
-            (over_front _ _ _ _ _ l.loop-i.invariant.1.1 (length-take-le i from (omega arith)) (omega arith)),
+            (over_front _ _ _ _ _ c.loop-i.invariant.1.1 (length-take-le i from (omega arith)) (omega arith)),
       ),
     )
 

@@ -9,23 +9,16 @@ use Rattle.idmap_read.proofs.read_through.Tie as tie
 
 returns : tie.Need-returns-then-ids-count
 returns c =
-    let d = c in
-    let s = d in
-    read_short s.args.count s.args.s.now _ _ (sym d.decode-m.ensures.0 ∙ c.in-Length.is) (omega arith)
+    read_short c.args.count c.args.s.now _ _ (sym c.decode-m.ensures.0 ∙ c.in-Length.is) (omega arith)
 
 returns-2 : tie.Need-returns-in-Refused
 returns-2 c =
-    let d = c in
-    let s = d in
-    read_broken s.args.count s.args.s.now _ _ (sym d.decode-m.ensures.0 ∙ c.in-Refused.is)
+    read_broken c.args.count c.args.s.now _ _ (sym c.decode-m.ensures.0 ∙ c.in-Refused.is)
 
 returns-3 : tie.Need-returns-else-ids-count
 returns-3 c =
-    let m = c in
-    let d = m in
-    let s = d in
-    read_done s.args.count s.args.s.now _ _ (sym d.decode-m.ensures.0 ∙ m.in-Length.is) _ _
-    d.decode-m.ensures.1 (omega arith) c.copy_ids.ensures
+    read_done c.args.count c.args.s.now _ _ (sym c.decode-m.ensures.0 ∙ c.in-Length.is) _ _
+    c.decode-m.ensures.1 (omega arith) c.copy_ids.ensures
 
 pub read_through_spec : {M : Type 1} → statement M
 read_through_spec =

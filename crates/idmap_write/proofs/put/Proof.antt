@@ -22,15 +22,13 @@ put-head-requires c κs = let f = raws c.before in omega (arith, f.size, c.requi
 
 put-raw-requires : tie.Need-put_raw-requires
 put-raw-requires c κs =
-    let ph = c in
-    let f = raws c.before.before.before.before.before in omega (arith, f.size, ph.requires.1, ph.put_head.auto.buf)
+    let f = raws c.before.before.before.before.before in omega (arith, f.size, c.requires.1, c.put_head.auto.buf)
 
 returns : tie.Need-returns-then-encoding-eq0
 returns c =
-    let ph = c in
     let f = raws c.before.before.before.before.before.before.before.before in
     rw f.bytes (whole_laid _ _ _ _ _ (length_head 0 0 _)
-    (omega (arith, f.size, ph.requires.1)) ph.put_head.ensures
+    (omega (arith, f.size, c.requires.1)) c.put_head.ensures
     c.put_raw.ensures)
 
 add_start : tie.Need-overflow_add-start
@@ -53,16 +51,14 @@ put-head-requires-2 c κs = let f = deltas c.before in omega (arith, f.size, c.r
 put-deltas-requires : tie.Need-put_deltas-requires
 unfolding groups
 put-deltas-requires c κs =
-    let ph2 = c in
     let f = deltas c.before.before.before.before.before in
-    ((f.pos, f.up), (f.begins, omega (arith, f.size, ph2.requires.1, ph2.put_head-2.auto.buf)))
+    ((f.pos, f.up), (f.begins, omega (arith, f.size, c.requires.1, c.put_head-2.auto.buf)))
 
 returns-2 : tie.Need-returns
 returns-2 c =
-    let ph2 = c in
     let f = deltas c.before.before.before.before.before.before.before.before in
     rw f.bytes (whole_laid _ _ _ _ _ (length_head 1 _ _)
-    (omega (arith, f.size, ph2.requires.1)) ph2.put_head-2.ensures
+    (omega (arith, f.size, c.requires.1)) c.put_head-2.ensures
     c.put_deltas.ensures)
 
 pub put_spec : {M : Type 1} → statement M

@@ -18,14 +18,12 @@ returns-2 c = write_short _ _ _ (sym c.refusal-bad.ensures ∙ c.if-bad-ne0.fals
 
 put-requires : tie.Need-put-requires
 put-requires c κs =
-    let e1 = c in
-    (sym e1.refusal-bad.ensures ∙ e1.if-bad-ne0.false, omega arith)
+    (sym c.refusal-bad.ensures ∙ c.if-bad-ne0.false, omega arith)
 
 returns-3 : tie.Need-returns
 returns-3 c =
-    let el = c in
-    write_done _ _ _ _ _ (sym el.refusal-bad.ensures ∙ el.if-bad-ne0.false) (omega arith)
-    el.encoded_len-n.ensures.0 c.put.ensures
+    write_done _ _ _ _ _ (sym c.refusal-bad.ensures ∙ c.if-bad-ne0.false) (omega arith)
+    c.encoded_len-n.ensures.0 c.put.ensures
 
 pub write_spec : {M : Type 1} → statement M
 write_spec =

@@ -27,19 +27,16 @@ shared-slice-read-kind c = omega (arith, c.requires.1.room)
 
 is-confirmed-requires : tie.Need-is_confirmed-requires
 is-confirmed-requires c κs =
-    let s = c in
-    let at_most = stored_few _ _ _ s.requires.0.0 in (
-      (omega arith, omega (arith, s.requires.1.room, s.requires.1.length_is, c.u64_at-len.ensures)),
-      candidate_inside _ _ _ _ _ s.requires.0.0 s.requires.0.1.0 s.requires.1,
+    let at_most = stored_few _ _ _ c.requires.0.0 in (
+      (omega arith, omega (arith, c.requires.1.room, c.requires.1.length_is, c.u64_at-len.ensures)),
+      candidate_inside _ _ _ _ _ c.requires.0.0 c.requires.0.1.0 c.requires.1,
     )
 
 returns : tie.Need-returns
 returns c =
-    let ua2 = c in
-    let ssk = ua2 in
-    candidate_is _ _ _ _ _ ssk.requires.0.0 ssk.requires.0.1.0 ssk.requires.1
-    (λ k. omega (arith, ssk.shared_slice_known-1.given k)) _ _ _ _
-    ua2.u64_at-len.ensures refl ua2.u64_at-id.ensures c.is_confirmed.ensures
+    candidate_is _ _ _ _ _ c.requires.0.0 c.requires.0.1.0 c.requires.1
+    (λ k. omega (arith, c.shared_slice_known-1.given k)) _ _ _ _
+    c.u64_at-len.ensures refl c.u64_at-id.ensures c.is_confirmed.ensures
 
 pub candidate_spec : {M : Type 1} → statement M
 candidate_spec =

@@ -30,10 +30,9 @@ sub-p c = let a = c.loop-p.invariant.0.search.aligned in omega arith
 
 loop-again : tie.Need-loop-p-preserved-then-k-eq0 invariant-loop-p decreases-loop-p
 loop-again c =
-    let l = c in
-    let a = l.loop-p.invariant.0.search.aligned in
-    let b = l.loop-p.invariant.0.search.inside in
-    (down_skip _ _ _ _ _ _ l.loop-p.invariant.0 (omega arith) bounded (λ h. absurd (omega arith)), omega arith)
+    let a = c.loop-p.invariant.0.search.aligned in
+    let b = c.loop-p.invariant.0.search.inside in
+    (down_skip _ _ _ _ _ _ c.loop-p.invariant.0 (omega arith) bounded (λ h. absurd (omega arith)), omega arith)
 
 mul-if2 : tie.Need-offset_bounds-offsets-i invariant-loop-p decreases-loop-p
 mul-if2 c =
@@ -43,34 +42,29 @@ mul-if2 c =
 
 shared-slice-read-if2 : tie.Need-bounds-offsets-i invariant-loop-p decreases-loop-p
 shared-slice-read-if2 c =
-    let l = c in
-    let a = l.loop-p.invariant.0.at_most in
-    let b = (stored_few _ _ _ l.loop-p.invariant.0.stored).1 in
+    let a = c.loop-p.invariant.0.at_most in
+    let b = (stored_few _ _ _ c.loop-p.invariant.0.stored).1 in
     omega arith
 
 loop-again-2 : tie.Need-loop-p-preserved-then-offsets-i invariant-loop-p decreases-loop-p
 loop-again-2 c =
-    let l = c in
-    let a = l.loop-p.invariant.0.search.aligned in
-    let b = l.loop-p.invariant.0.search.inside in
-    (down_skip _ _ _ _ _ _ l.loop-p.invariant.0 (omega arith) bounded (λ h e. c.if-offsets-i.true e), omega arith)
+    let a = c.loop-p.invariant.0.search.aligned in
+    let b = c.loop-p.invariant.0.search.inside in
+    (down_skip _ _ _ _ _ _ c.loop-p.invariant.0 (omega arith) bounded (λ h e. c.if-offsets-i.true e), omega arith)
 
 candidate-requires : tie.Need-candidate-requires invariant-loop-p decreases-loop-p
 candidate-requires c κs =
-    let l = c in
-    let s = l in
-    let a = l.loop-p.invariant.0.search.aligned in
-    let at_most = l.loop-p.invariant.0.at_most in
-    ((s.requires.0, (omega arith, s.requires.1.0)), down_link _ _ _ _ _ _ l.loop-p.invariant.0 (omega arith) c.if-offsets-i.false)
+    let a = c.loop-p.invariant.0.search.aligned in
+    let at_most = c.loop-p.invariant.0.at_most in
+    ((c.requires.0, (omega arith, c.requires.1.0)), down_link _ _ _ _ _ _ c.loop-p.invariant.0 (omega arith) c.if-offsets-i.false)
 
 add-u64-at : tie.Need-overflow_add-p invariant-loop-p decreases-loop-p
 add-u64-at c = let b = c.loop-p.invariant.0.search.inside in omega arith
 
 u64-at-requires : tie.Need-u64_at-len-requires invariant-loop-p decreases-loop-p
 u64-at-requires c κs =
-    let l = c in
-    let a = l.loop-p.invariant.0.search.aligned in
-    let m = down_link _ _ _ _ _ _ l.loop-p.invariant.0 (omega arith) c.if-offsets-i.false in
+    let a = c.loop-p.invariant.0.search.aligned in
+    let m = down_link _ _ _ _ _ _ c.loop-p.invariant.0 (omega arith) c.if-offsets-i.false in
     omega (arith, m.room)
 
 add-t18 : tie.Need-overflow_add-result invariant-loop-p decreases-loop-p
@@ -78,18 +72,14 @@ add-t18 c = let b = c.loop-p.invariant.0.search.inside in omega arith
 
 round-up-requires : tie.Need-round_up-requires invariant-loop-p decreases-loop-p
 round-up-requires c κs =
-    let e2 = c in
-    let l = e2 in
-    let a = l.loop-p.invariant.0.search.aligned in
-    let m = down_link _ _ _ _ _ _ l.loop-p.invariant.0 (omega arith) e2.if-offsets-i.false in
+    let a = c.loop-p.invariant.0.search.aligned in
+    let m = down_link _ _ _ _ _ _ c.loop-p.invariant.0 (omega arith) c.if-offsets-i.false in
     omega (arith, m.room, m.length_is, c.u64_at-len.ensures)
 
 add-t20 : tie.Need-overflow_add-result-then-candidate invariant-loop-p decreases-loop-p
 add-t20 c =
-    let e2 = c in
-    let l = e2 in
-    let a = l.loop-p.invariant.0.search.aligned in
-    let m = down_link _ _ _ _ _ _ l.loop-p.invariant.0 (omega arith) e2.if-offsets-i.false in
+    let a = c.loop-p.invariant.0.search.aligned in
+    let m = down_link _ _ _ _ _ _ c.loop-p.invariant.0 (omega arith) c.if-offsets-i.false in
     omega (arith, m.room, m.length_is, c.u64_at-len.ensures, c.round_up.ensures, round64_lt c.u64_at-len.result)
 
 add-u64-at-2 : tie.Need-overflow_add-p-then-candidate invariant-loop-p decreases-loop-p
@@ -97,34 +87,28 @@ add-u64-at-2 c = let b = c.loop-p.invariant.0.search.inside in omega arith
 
 u64-at-requires-2 : tie.Need-u64_at-requires invariant-loop-p decreases-loop-p
 u64-at-requires-2 c κs =
-    let e2 = c in
-    let l = e2 in
-    let a = l.loop-p.invariant.0.search.aligned in
-    let m = down_link _ _ _ _ _ _ l.loop-p.invariant.0 (omega arith) e2.if-offsets-i.false in
+    let a = c.loop-p.invariant.0.search.aligned in
+    let m = down_link _ _ _ _ _ _ c.loop-p.invariant.0 (omega arith) c.if-offsets-i.false in
     omega (arith, m.room)
 
 returns : tie.Need-returns-then-candidate invariant-loop-p decreases-loop-p
 unfolding opened size
 returns c =
-    let ua = c in
-    let e2 = ua in
-    let l' = e2 in
-    let a = l'.loop-p.invariant.0.search.aligned in
-    let b = l'.loop-p.invariant.0.search.inside in
-    let m = down_link _ _ _ _ _ _ l'.loop-p.invariant.0 (omega arith) e2.if-offsets-i.false in
-    let d = down_found _ _ _ _ _ _ l'.loop-p.invariant.0 (omega arith) (omega arith) e2.if-offsets-i.false
-    (sym ua.candidate.ensures ∙ ua.if-candidate.true) in
-    let l : round64 ua.u64_at-len.result ≡ round64 _ = ap round64 (ua.u64_at-len.ensures ∙ sym m.length_is) in
+    let a = c.loop-p.invariant.0.search.aligned in
+    let b = c.loop-p.invariant.0.search.inside in
+    let m = down_link _ _ _ _ _ _ c.loop-p.invariant.0 (omega arith) c.if-offsets-i.false in
+    let d = down_found _ _ _ _ _ _ c.loop-p.invariant.0 (omega arith) (omega arith) c.if-offsets-i.false
+    (sym c.candidate.ensures ∙ c.if-candidate.true) in
+    let l : round64 c.u64_at-len.result ≡ round64 _ = ap round64 (c.u64_at-len.ensures ∙ sym m.length_is) in
     found_at _ _ _ _ _ _ _ _ d.found (sym d.offset_is)
     (omega (arith, d.offset_is, c.round_up.ensures, l)) (c.u64_at.ensures ∙ sym m.id_is)
     (sym d.count) (omega (arith, d.offset_is))
 
 loop-again-3 : tie.Need-loop-p-preserved invariant-loop-p decreases-loop-p
 loop-again-3 c =
-    let l = c in
-    let a = l.loop-p.invariant.0.search.aligned in
-    let b = l.loop-p.invariant.0.search.inside in (
-      down_not _ _ _ _ _ _ l.loop-p.invariant.0 (omega arith) (omega arith) c.if-offsets-i.false bounded
+    let a = c.loop-p.invariant.0.search.aligned in
+    let b = c.loop-p.invariant.0.search.inside in (
+      down_not _ _ _ _ _ _ c.loop-p.invariant.0 (omega arith) (omega arith) c.if-offsets-i.false bounded
           (sym c.candidate.ensures ∙ c.if-candidate.false),
       omega arith,
     )

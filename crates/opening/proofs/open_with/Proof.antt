@@ -12,8 +12,7 @@ returns c = (open_long _ c.if-file-gt-MAX_FILE.true, λ h. absurd (omega arith))
 
 returns-2 : tie.Need-returns
 returns-2 c =
-    let c' = c in
-    (open_within _ _ c'.if-file-gt-MAX_FILE.false c.find_from_end.ensures, λ h. indexed _ _ _ c'.collect-n.ensures.0 c'.collect-n.ensures.1)
+    (open_within _ _ c.if-file-gt-MAX_FILE.false c.find_from_end.ensures, λ h. indexed _ _ _ c.collect-n.ensures.0 c.collect-n.ensures.1)
 
 pub open_with_spec : {M : Type 1} → statement M
 open_with_spec = tie.close (tie.spec

@@ -9,8 +9,7 @@ use Rattle.segment.proofs.is_whole.Tie as tie
 
 is-whole-by-requires : tie.Need-is_whole_by-requires
 is-whole-by-requires c κs =
-    let s = c in
-    (s.requires, c.checksum.ensures ∙ ap crc_of (payload_part s.args.file.now s.args.at s.args.len))
+    (c.requires, c.checksum.ensures ∙ ap crc_of (payload_part c.args.file.now c.args.at c.args.len))
 
 returns : tie.Need-returns
 returns c = c.is_whole_by.ensures

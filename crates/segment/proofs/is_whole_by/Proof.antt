@@ -8,8 +8,7 @@ use Rattle.segment.proofs.is_whole_by.Tie as tie
 
 returns : tie.Need-returns
 returns c =
-    let h = c in
-    whole_by _ _ _ _ _ c.same.ensures (hash_of _ _ _ h.requires.1 h.hash_by-hash.ensures)
+    whole_by _ _ _ _ _ c.same.ensures (hash_of _ _ _ c.requires.1 c.hash_by-hash.ensures)
 
 pub is_whole_by_spec : {M : Type 1} → statement M
 is_whole_by_spec =

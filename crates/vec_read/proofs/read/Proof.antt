@@ -8,11 +8,8 @@ use Rattle.vec_read.proofs.read.Tie as tie
 
 read-vector-requires : tie.Need-read_vector-w-requires
 read-vector-requires c κs =
-    let f = c in
-    let w = f in
-    let s = w in
-    let k = found_at _ _ _ _ _ _ _ _ (sym w.walk-found.ensures ∙ f.in-At.is) in
-    get_bounds s.args.payload.now s.args.id s.args.buf.now k.0 _ _ _ _ _ _ _ k.1
+    let k = found_at _ _ _ _ _ _ _ _ (sym c.walk-found.ensures ∙ c.in-At.is) in
+    get_bounds c.args.payload.now c.args.id c.args.buf.now k.0 _ _ _ _ _ _ _ k.1
 
 returns : tie.Need-returns-in-Refused
 returns c =
@@ -26,23 +23,15 @@ returns-2 c =
 
 returns-3 : tie.Need-returns-in-Refused-w
 returns-3 c =
-    let rv = c in
-    let f = rv in
-    let w = f in
-    let s = w in
-    let k = found_at _ _ _ _ _ _ _ _ (sym w.walk-found.ensures ∙ f.in-At.is) in
-    get_short s.args.payload.now s.args.id _ k.0 _ _ _ _ _ _ _ k.1 _ _
-    (sym rv.read_vector-w.ensures.0 ∙ c.in-Refused-w.is) rv.read_vector-w.ensures.1
+    let k = found_at _ _ _ _ _ _ _ _ (sym c.walk-found.ensures ∙ c.in-At.is) in
+    get_short c.args.payload.now c.args.id _ k.0 _ _ _ _ _ _ _ k.1 _ _
+    (sym c.read_vector-w.ensures.0 ∙ c.in-Refused-w.is) c.read_vector-w.ensures.1
 
 returns-4 : tie.Need-returns-in-Length
 returns-4 c =
-    let rv = c in
-    let f = rv in
-    let w = f in
-    let s = w in
-    let k = found_at _ _ _ _ _ _ _ _ (sym w.walk-found.ensures ∙ f.in-At.is) in
-    get_read s.args.payload.now s.args.id _ k.0 _ _ _ _ _ _ _ k.1 _ _
-    (sym rv.read_vector-w.ensures.0 ∙ c.in-Length.is) rv.read_vector-w.ensures.1
+    let k = found_at _ _ _ _ _ _ _ _ (sym c.walk-found.ensures ∙ c.in-At.is) in
+    get_read c.args.payload.now c.args.id _ k.0 _ _ _ _ _ _ _ k.1 _ _
+    (sym c.read_vector-w.ensures.0 ∙ c.in-Length.is) c.read_vector-w.ensures.1
 
 pub read_spec : {M : Type 1} → statement M
 read_spec =

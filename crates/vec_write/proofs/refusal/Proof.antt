@@ -19,43 +19,35 @@ returns-3 c = bad_high _ _ _ _ _ _ _ _ c.width_of-w.ensures c.if-w-eq0.false (om
 
 returns-4 : tie.Need-returns-then-tier-gt255
 returns-4 c =
-    let e1 = c in
-    bad_tier _ _ _ _ _ _ _ _ e1.width_of-w.ensures e1.if-w-eq0.false (omega arith) (omega arith) (omega arith)
+    bad_tier _ _ _ _ _ _ _ _ c.width_of-w.ensures c.if-w-eq0.false (omega arith) (omega arith) (omega arith)
 
 returns-5 : tie.Need-returns-then-ids-gt-MAX_VECTORS
 returns-5 c =
-    let e1 = c in
-    bad_many _ _ _ _ _ _ _ _ e1.width_of-w.ensures e1.if-w-eq0.false (omega arith) (omega arith) (omega arith) (omega arith)
+    bad_many _ _ _ _ _ _ _ _ c.width_of-w.ensures c.if-w-eq0.false (omega arith) (omega arith) (omega arith) (omega arith)
 
 mul-if6 : tie.Need-overflow_mul-ids
 mul-if6 c =
-    let wo = c in
-    let s = wo in
     omega (
       arith,
-      (columns_fit (length s.args.ids.now) s.args.dim wo.width_of-w.result (omega arith)
-          (omega arith) (omega (arith, wo.width_of-w.ensures, width_most s.args.dtype))).0,
+      (columns_fit (length c.args.ids.now) c.args.dim c.width_of-w.result (omega arith)
+          (omega arith) (omega (arith, c.width_of-w.ensures, width_most c.args.dtype))).0,
     )
 
 mul-if6-2 : tie.Need-overflow_mul-ids-2
 mul-if6-2 c =
-    let wo = c in
-    let s = wo in
     omega (
       arith,
-      (columns_fit (length s.args.ids.now) s.args.dim wo.width_of-w.result (omega arith)
-          (omega arith) (omega (arith, wo.width_of-w.ensures, width_most s.args.dtype))).1,
+      (columns_fit (length c.args.ids.now) c.args.dim c.width_of-w.result (omega arith)
+          (omega arith) (omega (arith, c.width_of-w.ensures, width_most c.args.dtype))).1,
     )
 
 returns-6 : tie.Need-returns-then-columns-ids
 returns-6 c =
-    let e1 = c in
-    bad_columns _ _ _ _ _ _ _ _ e1.width_of-w.ensures e1.if-w-eq0.false (omega arith) (omega arith) (omega arith) c.if-columns-ids.true
+    bad_columns _ _ _ _ _ _ _ _ c.width_of-w.ensures c.if-w-eq0.false (omega arith) (omega arith) (omega arith) c.if-columns-ids.true
 
 returns-7 : tie.Need-returns
 returns-7 c =
-    let e1 = c in
-    bad_map _ _ _ _ _ _ _ _ e1.width_of-w.ensures e1.if-w-eq0.false (omega arith) (omega arith)
+    bad_map _ _ _ _ _ _ _ _ c.width_of-w.ensures c.if-w-eq0.false (omega arith) (omega arith)
     (omega arith) _ c.refusal.ensures c.if-columns-ids.false
 
 pub refusal_spec : {M : Type 1} → statement M

@@ -32,9 +32,8 @@ add-n c = omega (arith, round64_lt (length c.args.columns.now + c.encoded_len.re
 
 returns-2 : tie.Need-returns-then-buf-n
 returns-2 c =
-    let e1 = c in
     let n = size c.before in
-    write_short _ _ _ (sym e1.refusal-bad.ensures ∙ e1.if-bad-ne0.false) (omega arith)
+    write_short _ _ _ (sym c.refusal-bad.ensures ∙ c.if-bad-ne0.false) (omega arith)
 
 put-directory-requires : tie.Need-put_directory-requires
 put-directory-requires c κs =
@@ -43,18 +42,14 @@ put-directory-requires c κs =
 
 put-block-requires : tie.Need-put_block-requires
 put-block-requires c κs =
-    let p = c in
     ((good c.before.before.before.before.before.before.before.before).map, (omega arith, omega arith))
 
 returns-3 : tie.Need-returns
 returns-3 c =
-    let p = c in
-    let r = p in
-    let s = r in
     let n = size c.before.before.before.before.before.before.before.before.before in
-    write_done _ _ _ _ _ (sym s.refusal-bad.ensures ∙ s.if-bad-ne0.false) (omega arith) n
-    (payload_laid s.args.buf.now _ _ _ _ _ _ _ _ _ _ (omega arith) (omega arith)
-    p.put_directory.ensures c.put_block.ensures)
+    write_done _ _ _ _ _ (sym c.refusal-bad.ensures ∙ c.if-bad-ne0.false) (omega arith) n
+    (payload_laid c.args.buf.now _ _ _ _ _ _ _ _ _ _ (omega arith) (omega arith)
+    c.put_directory.ensures c.put_block.ensures)
 
 pub write_spec : {M : Type 1} → statement M
 write_spec =

@@ -42,31 +42,27 @@ module _ (b : tie.In-loop-j invariant-loop-j decreases-loop-j) where
 
 add_at : tie.Need-overflow_add-at invariant-loop-j decreases-loop-j
 add_at c =
-    let b = c in
-    omega (arith, at_most c.before.before, round64_lt c.u32_at-length.result, b.loop-j.invariant.small, c.round_up.ensures, b.requires.1)
+    omega (arith, at_most c.before.before, round64_lt c.u32_at-length.result, c.loop-j.invariant.small, c.round_up.ensures, c.requires.1)
 
 add-at-2 : tie.Need-overflow_add-at-in-loop-j invariant-loop-j decreases-loop-j
 add-at-2 c =
-    let b = c in
-    omega (arith, at_most c.before.before, round64_lt c.u32_at-length.result, b.loop-j.invariant.small, c.round_up.ensures, b.requires.1)
+    omega (arith, at_most c.before.before, round64_lt c.u32_at-length.result, c.loop-j.invariant.small, c.round_up.ensures, c.requires.1)
 
 add-j : tie.Need-overflow_add-j-in-loop-j-2 invariant-loop-j decreases-loop-j
 add-j c = omega (arith, at_most c.before.before)
 
 loop-again : tie.Need-loop-j-preserved invariant-loop-j decreases-loop-j
 loop-again c =
-    let b = c in
     let p = (line c.before.before).payload_length_is ∙ sym c.u32_at-length.ensures in
-    end_next _ _ _ _ no_body b.loop-j.invariant (more c.before.before) (omega (arith, p)) _ (c.round_up.ensures ∙ ap round64 (sym p))
+    end_next _ _ _ _ no_body c.loop-j.invariant (more c.before.before) (omega (arith, p)) _ (c.round_up.ensures ∙ ap round64 (sym p))
     (omega (arith, p, c.round_up.ensures, round64_lt c.u32_at-length.result))
 
 returns : tie.Need-returns invariant-loop-j decreases-loop-j
 returns c =
-    let ua = c in
-    let batch = ua.args.batch.now in
+    let batch = c.args.batch.now in
     let n = bodies_count batch in
-    let k = count_is batch ua.u32_at-m.result ua.u32_at-m.ensures in
-    let q = held_bounds batch ua.requires.0 in
+    let k = count_is batch c.u32_at-m.result c.u32_at-m.ensures in
+    let q = held_bounds batch c.requires.0 in
     end_last _ _ _ _ c.loop-j.invariant (omega arith)
 
 pub bodies_end_spec : {M : Type 1} → statement M

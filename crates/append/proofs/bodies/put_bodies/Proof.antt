@@ -47,16 +47,13 @@ module _ (b : tie.In-loop-j invariant-loop-j decreases-loop-j) where
 inside : (t : tie.After-u32_at invariant-loop-j decreases-loop-j) → t.u32_at-from.result + t.u32_at.result
     ≤ length t.args.batch.now
 inside t =
-    let ua2 = t in
-    let b = ua2 in
-    let batch = b.args.batch.now in
-    let a = body_at batch b.requires.0.0 b.loop-j.j (omega (arith, more t.before.before.before.before, bodies_count batch)) in
-    body_inside batch b.loop-j.j a ua2.u32_at-from.result t.u32_at.result ua2.u32_at-from.ensures t.u32_at.ensures
+    let batch = t.args.batch.now in
+    let a = body_at batch t.requires.0.0 t.loop-j.j (omega (arith, more t.before.before.before.before, bodies_count batch)) in
+    body_inside batch t.loop-j.j a t.u32_at-from.result t.u32_at.result t.u32_at-from.ensures t.u32_at.ensures
 
 u32-at-requires : tie.Need-u32_at-m-requires invariant-loop-j decreases-loop-j
 u32-at-requires c κs =
-    let s = c in
-    omega (arith, held_bounds s.args.batch.now s.requires.0.0)
+    omega (arith, held_bounds c.args.batch.now c.requires.0.0)
 
 loop-holds : tie.Need-loop-j-init invariant-loop-j decreases-loop-j
 loop-holds c = put_first _ _ _ _ _ _ _
@@ -87,18 +84,15 @@ shared-slice-read-sum c = (sum-known c.before.before.before.before.before).0
 
 add-offsets : tie.Need-overflow_add-offsets invariant-loop-j decreases-loop-j
 add-offsets c =
-    let b = c in
-    omega (arith, more c.before.before.before.before.before, bodies_count b.args.batch.now, b.loop-j.invariant.many, b.requires.1.0.1)
+    omega (arith, more c.before.before.before.before.before, bodies_count c.args.batch.now, c.loop-j.invariant.many, c.requires.1.0.1)
 
 mul-offsets : tie.Need-offset_bounds-offsets-kept invariant-loop-j decreases-loop-j
 mul-offsets c =
-    let b = c in
-    omega (arith, more c.before.before.before.before.before, bodies_count b.args.batch.now, b.loop-j.invariant.many, b.requires.1.0.1)
+    omega (arith, more c.before.before.before.before.before, bodies_count c.args.batch.now, c.loop-j.invariant.many, c.requires.1.0.1)
 
 slice-write-offsets : tie.Need-bounds-offsets-kept invariant-loop-j decreases-loop-j
 slice-write-offsets c =
-    let b = c in
-    omega (arith, more c.before.before.before.before.before, bodies_count b.args.batch.now, b.loop-j.invariant.many, b.requires.1.0.1)
+    omega (arith, more c.before.before.before.before.before, bodies_count c.args.batch.now, c.loop-j.invariant.many, c.requires.1.0.1)
 
 sub-put-segment : tie.Need-slice_bounds-put_segment-count invariant-loop-j decreases-loop-j
 sub-put-segment c = omega (arith, at_room c.before.before.before.before.before)
@@ -111,8 +105,7 @@ part-put-segment-end c = omega (arith, at_room c.before.before.before.before.bef
 
 add-put-segment : tie.Need-overflow_add-first_id invariant-loop-j decreases-loop-j
 add-put-segment c =
-    let b = c in
-    omega (arith, more c.before.before.before.before.before.before, bodies_count b.args.batch.now, b.requires.1.0.0)
+    omega (arith, more c.before.before.before.before.before.before, bodies_count c.args.batch.now, c.requires.1.0.0)
 
 sub-put-segment-2 : tie.Need-slice_bounds-put_segment-count-in-loop-j invariant-loop-j decreases-loop-j
 sub-put-segment-2 c = omega (arith, inside c.before.before)
@@ -125,65 +118,53 @@ part-put-segment-end-2 c = omega (arith, inside c.before.before)
 
 put-segment-requires : tie.Need-put_segment-at-requires invariant-loop-j decreases-loop-j
 put-segment-requires c κs =
-    let ua3 = c in
-    let ua2 = ua3 in
-    let b = ua2 in
-    let at = b.loop-j.at in
-    let buf = b.loop-j.buf in
-    let batch = b.args.batch.now in
-    let q = held_bounds batch b.requires.0.0 in
-    let a = body_at batch b.requires.0.0 b.loop-j.j (omega (arith, more c.before.before.before.before.before.before.before, bodies_count batch)) in
-    let r = put_room _ _ _ _ _ _ _ _ _ _ _ b.loop-j.invariant (more c.before.before.before.before.before.before.before) no_body b.requires.0.1 in
-    let p = body_part batch b.loop-j.j a ua2.u32_at-from.result ua3.u32_at.result ua2.u32_at-from.ensures ua3.u32_at.ensures in
-    let e : round64 (length (take (ua2.u32_at-from.result + ua3.u32_at.result - ua2.u32_at-from.result)
-    (drop ua2.u32_at-from.result batch))) ≡ round64 _ =
+    let at = c.loop-j.at in
+    let buf = c.loop-j.buf in
+    let batch = c.args.batch.now in
+    let q = held_bounds batch c.requires.0.0 in
+    let a = body_at batch c.requires.0.0 c.loop-j.j (omega (arith, more c.before.before.before.before.before.before.before, bodies_count batch)) in
+    let r = put_room _ _ _ _ _ _ _ _ _ _ _ c.loop-j.invariant (more c.before.before.before.before.before.before.before) no_body c.requires.0.1 in
+    let p = body_part batch c.loop-j.j a c.u32_at-from.result c.u32_at.result c.u32_at-from.ensures c.u32_at.ensures in
+    let e : round64 (length (take (c.u32_at-from.result + c.u32_at.result - c.u32_at-from.result)
+    (drop c.u32_at-from.result batch))) ≡ round64 _ =
     ap round64 (ap length p) in
     (omega (arith, e, length-take (length buf - at) (drop at buf), length-drop at buf), (sum-known c.before.before.before.before.before.before.before).1 ∙ ap crc_of (sym p))
 
 add_at : tie.Need-overflow_add-at invariant-loop-j decreases-loop-j
 add_at c =
-    let ua3 = c in
-    let ua2 = ua3 in
-    let b = ua2 in
-    let batch = b.args.batch.now in
-    let j = b.loop-j.j in
-    let a = body_at batch b.requires.0.0 j (omega (arith, more c.before.before.before.before.before.before.before.before.before.before, bodies_count batch)) in
-    let r = put_room _ _ _ _ _ _ _ _ _ _ _ b.loop-j.invariant (more c.before.before.before.before.before.before.before.before.before.before) no_body b.requires.0.1 in
+    let batch = c.args.batch.now in
+    let j = c.loop-j.j in
+    let a = body_at batch c.requires.0.0 j (omega (arith, more c.before.before.before.before.before.before.before.before.before.before, bodies_count batch)) in
+    let r = put_room _ _ _ _ _ _ _ _ _ _ _ c.loop-j.invariant (more c.before.before.before.before.before.before.before.before.before.before) no_body c.requires.0.1 in
     let z =
     c.put_segment-at.ensures.0
-    ∙ body_length batch j a ua2.u32_at-from.result ua3.u32_at.result ua2.u32_at-from.ensures ua3.u32_at.ensures
-    _ _ (b.args.first_id + j) b.args.timestamp in
-    omega (arith, z, b.loop-j.invariant.same_length, b.well_formed)
+    ∙ body_length batch j a c.u32_at-from.result c.u32_at.result c.u32_at-from.ensures c.u32_at.ensures
+    _ _ (c.args.first_id + j) c.args.timestamp in
+    omega (arith, z, c.loop-j.invariant.same_length, c.well_formed)
 
 loop-again : tie.Need-loop-j-preserved invariant-loop-j decreases-loop-j
 loop-again c =
-    let ps = c in
-    let ua3 = ps in
-    let ua2 = ua3 in
-    let b = ua2 in
-    let s = b in
-    let batch = s.args.batch.now in
-    let j = b.loop-j.j in
+    let batch = c.args.batch.now in
+    let j = c.loop-j.j in
     let n = bodies_count batch in
-    let k = count_is batch b.u32_at-m.result b.u32_at-m.ensures in
-    let a = body_at batch s.requires.0.0 j (omega (arith, more c.before.before.before.before.before.before.before.before.before.before, n)) in
-    let r = put_room _ _ _ _ _ _ _ _ _ _ _ b.loop-j.invariant (more c.before.before.before.before.before.before.before.before.before.before) no_body s.requires.0.1 in
+    let k = count_is batch c.u32_at-m.result c.u32_at-m.ensures in
+    let a = body_at batch c.requires.0.0 j (omega (arith, more c.before.before.before.before.before.before.before.before.before.before, n)) in
+    let r = put_room _ _ _ _ _ _ _ _ _ _ _ c.loop-j.invariant (more c.before.before.before.before.before.before.before.before.before.before) no_body c.requires.0.1 in
     let z =
-    ps.put_segment-at.ensures.0
-    ∙ body_length batch j a ua2.u32_at-from.result ua3.u32_at.result ua2.u32_at-from.ensures ua3.u32_at.ensures
-    _ _ (s.args.first_id + j) s.args.timestamp in
-    put_next _ _ _ _ _ _ _ _ _ _ _ b.loop-j.invariant (more c.before.before.before.before.before.before.before.before.before.before) no_body s.requires.0.1 _ _ _
-    (body_segment batch j a ua2.u32_at-from.result ua3.u32_at.result ua2.u32_at-from.ensures ua3.u32_at.ensures
-    _ _ (s.args.first_id + j) s.args.timestamp refl ua2.u16_at-flags.ensures)
-    ps.put_segment-at.ensures.0
-    (back _ _ _ _ ps.put_segment-at.ensures.1 (omega (arith, z, ps.put_segment-at.ensures.0))) (omega (arith, s.requires.1.0.1))
+    c.put_segment-at.ensures.0
+    ∙ body_length batch j a c.u32_at-from.result c.u32_at.result c.u32_at-from.ensures c.u32_at.ensures
+    _ _ (c.args.first_id + j) c.args.timestamp in
+    put_next _ _ _ _ _ _ _ _ _ _ _ c.loop-j.invariant (more c.before.before.before.before.before.before.before.before.before.before) no_body c.requires.0.1 _ _ _
+    (body_segment batch j a c.u32_at-from.result c.u32_at.result c.u32_at-from.ensures c.u32_at.ensures
+    _ _ (c.args.first_id + j) c.args.timestamp refl c.u16_at-flags.ensures)
+    c.put_segment-at.ensures.0
+    (back _ _ _ _ c.put_segment-at.ensures.1 (omega (arith, z, c.put_segment-at.ensures.0))) (omega (arith, c.requires.1.0.1))
 
 returns : tie.Need-returns invariant-loop-j decreases-loop-j
 returns c =
-    let u = c in
-    let batch = u.args.batch.now in
+    let batch = c.args.batch.now in
     let n = bodies_count batch in
-    let k = count_is batch u.u32_at-m.result u.u32_at-m.ensures in
+    let k = count_is batch c.u32_at-m.result c.u32_at-m.ensures in
     put_last _ _ _ _ _ _ _ _ _ _ _ c.loop-j.invariant (omega arith)
 
 pub put_bodies_spec : {M : Type 1} → statement M

@@ -51,8 +51,7 @@ module _ (e : tie.Else-ids_over) where
 -- Where the bodies' end is known.
 bodies-small : (b : tie.After-bodies_end-at) → b.bodies_end-at.result ≤ 17827840
 bodies-small b =
-    let s = b in
-    omega (arith, b.bodies_end-at.ensures, bodies_most s.args.batch.now s.args.start s.requires.0.0 s.requires.1.0.small)
+    omega (arith, b.bodies_end-at.ensures, bodies_most b.args.batch.now b.args.start b.requires.0.0 b.requires.1.0.small)
 
 -- Where the file's new end is known.
 module _ (r : tie.After-round_up-2) where
@@ -85,8 +84,7 @@ module _ (p : tie.After-put_bodies) where
 
 u32-at-requires : tie.Need-u32_at-m-requires
 u32-at-requires c κs =
-    let s = c in
-    let q = held_bounds s.args.batch.now s.requires.0.0 in
+    let q = held_bounds c.args.batch.now c.requires.0.0 in
     omega arith
 
 add-count : tie.Need-overflow_add-count
@@ -100,62 +98,49 @@ returns c = commit_entries _ _ _ _ _ (omega (arith, count-new c.before))
 
 ids-over-requires : tie.Need-ids_over-requires
 ids-over-requires c κs =
-    let u = c in
-    let q = held_bounds u.args.batch.now u.requires.0.0 in
-    let m-is = count_is u.args.batch.now (m c.before) u.u32_at-m.ensures in
+    let q = held_bounds c.args.batch.now c.requires.0.0 in
+    let m-is = count_is c.args.batch.now (m c.before) c.u32_at-m.ensures in
     omega arith
 
 returns-2 : tie.Need-returns-then-ids_over
 returns-2 c =
-    let u = c in
     commit_ids _ _ _ _ _ (omega (arith, count-new c.before.before.before)) (ap (ltb (2 ^ 64 - 1)) (sym (id-new c.before.before.before)) ∙ sym c.ids_over.ensures ∙ c.if-ids_over.true)
 
 bodies-end-requires : tie.Need-bodies_end-at-requires
 bodies-end-requires c κs =
-    let s = c in
-    (s.requires.0.0, s.requires.1.0.small)
+    (c.requires.0.0, c.requires.1.0.small)
 
 add-round-up-2 : tie.Need-overflow_add-round_up
 add-round-up-2 c =
-    let u = c in
-    omega (arith, c.round_up.ensures, round64_lt (8 + 48 * (u.args.kept + m c.before.before.before.before.before.before)))
+    omega (arith, c.round_up.ensures, round64_lt (8 + 48 * (c.args.kept + m c.before.before.before.before.before.before)))
 
 round-up-requires-2 : tie.Need-round_up-requires-2
 round-up-requires-2 c κs =
-    let u = c in
-    omega (arith, c.round_up.ensures, round64_lt (8 + 48 * (u.args.kept + m c.before.before.before.before.before.before)))
+    omega (arith, c.round_up.ensures, round64_lt (8 + 48 * (c.args.kept + m c.before.before.before.before.before.before)))
 
 add-end-2 : tie.Need-overflow_add-end-2
 add-end-2 c =
-    let u = c in
-    let l = round64_lt (8 + 48 * (u.args.kept + m c.before.before.before.before.before.before.before)) in
+    let l = round64_lt (8 + 48 * (c.args.kept + m c.before.before.before.before.before.before.before)) in
     let k = round64_lt (c.round_up.result + 4096) in
     omega (arith, bodies-small c.before.before, c.round_up.ensures, c.round_up-2.ensures)
 
 returns-3 : tie.Need-returns-then-end-gt-MAX_FILE
 returns-3 c =
-    let e2 = c in
     commit_limit _ _ _ _ _ (omega (arith, count-new c.before.before.before.before.before.before.before.before)) (id-enough c.before.before.before.before.before) (omega (arith, end-new c.before))
 
 returns-4 : tie.Need-returns-then-end-buf
 returns-4 c =
-    let r = c in
-    let e2 = r in
     commit_room _ _ _ _ _ (omega (arith, count-new c.before.before.before.before.before.before.before.before.before)) (id-enough c.before.before.before.before.before.before) (omega (arith, end-new c.before.before)) (omega (arith, end-new c.before.before))
 
 add-id : tie.Need-overflow_add-id
 add-id c =
-    let n = c in
-    omega (arith, n.next_id-next.ensures, id_fits c.before.before.before.before.before.before)
+    omega (arith, c.next_id-next.ensures, id_fits c.before.before.before.before.before.before)
 
 put-bodies-requires : tie.Need-put_bodies-requires
 put-bodies-requires c κs =
-    let b = c in
-    let n = b in
-    let u = n in
-    let m-is = count_is u.args.batch.now (m c.before.before.before.before.before.before.before.before.before.before.before) u.u32_at-m.ensures in (
-      (u.requires.0.0, omega (arith, b.bodies_end-at.ensures)),
-      ((omega (arith, n.next_id-next.ensures, id_fits c.before.before.before.before.before.before.before.before, m-is), omega (arith, m-is, u.requires.0.1.0)), u.requires.1.1),
+    let m-is = count_is c.args.batch.now (m c.before.before.before.before.before.before.before.before.before.before.before) c.u32_at-m.ensures in (
+      (c.requires.0.0, omega (arith, c.bodies_end-at.ensures)),
+      ((omega (arith, c.next_id-next.ensures, id_fits c.before.before.before.before.before.before.before.before, m-is), omega (arith, m-is, c.requires.0.1.0)), c.requires.1.1),
     )
 
 slice-aggregate-put-manifest : tie.Need-slice_bounds-put_manifest-end-2
@@ -166,38 +151,33 @@ slice-aggregate-put-manifest-2 c = sym (states-count c.before.before.before.befo
 
 put-manifest-requires : tie.Need-put_manifest-requires
 put-manifest-requires c κs =
-    let p = c in
-    let s = p in
     let os-count = offsets-count c.before.before.before.before.before in
-    let pr = payload_round (all c.before.before.before.before.before) _ _ p.round_up.ensures p.round_up-2.ensures in
-    let pl : round64 (payload_length (length (take (all c.before.before.before.before.before) p.put_bodies.new.offsets))) ≡ round64 (payload_length (all c.before.before.before.before.before)) =
+    let pr = payload_round (all c.before.before.before.before.before) _ _ c.round_up.ensures c.round_up-2.ensures in
+    let pl : round64 (payload_length (length (take (all c.before.before.before.before.before) c.put_bodies.new.offsets))) ≡ round64 (payload_length (all c.before.before.before.before.before)) =
     ap (λ (n : ℕ). round64 (payload_length n)) os-count in (
       (omega (arith, os-count, at_most c.before.before.before.before.before), omega (arith, os-count, states-count c.before.before.before.before.before)),
       (
-        (omega (arith, pl, pr, p.put_bodies.auto.buf), omega arith),
-        written_inside s.args.buf.now s.args.offsets.now s.args.batch.now s.args.start
-            s.args.kept s.args.first s.args.last
-            s.requires.1.0 s.requires.0.0 s.args.timestamp s.ranges.timestamp.fits p.next_id-next.result (m c.before.before.before.before.before.before.before.before.before.before.before.before.before.before.before.before.before) p.next_id-next.ensures
-            (count_is s.args.batch.now (m c.before.before.before.before.before.before.before.before.before.before.before.before.before.before.before.before.before) p.u32_at-m.ensures) (ids-fit c.before.before.before.before.before) p.bodies_end-at.result p.bodies_end-at.ensures
-            (omega arith) (omega arith) (omega (arith, at_most c.before.before.before.before.before, s.requires.0.1.0))
-            p.put_bodies.new.buf p.put_bodies.new.offsets p.put_bodies.ensures.0 p.put_bodies.ensures.1,
+        (omega (arith, pl, pr, c.put_bodies.auto.buf), omega arith),
+        written_inside c.args.buf.now c.args.offsets.now c.args.batch.now c.args.start
+            c.args.kept c.args.first c.args.last
+            c.requires.1.0 c.requires.0.0 c.args.timestamp c.ranges.timestamp.fits c.next_id-next.result (m c.before.before.before.before.before.before.before.before.before.before.before.before.before.before.before.before.before) c.next_id-next.ensures
+            (count_is c.args.batch.now (m c.before.before.before.before.before.before.before.before.before.before.before.before.before.before.before.before.before) c.u32_at-m.ensures) (ids-fit c.before.before.before.before.before) c.bodies_end-at.result c.bodies_end-at.ensures
+            (omega arith) (omega arith) (omega (arith, at_most c.before.before.before.before.before, c.requires.0.1.0))
+            c.put_bodies.new.buf c.put_bodies.new.offsets c.put_bodies.ensures.0 c.put_bodies.ensures.1,
       ),
     )
 
 returns-5 : tie.Need-returns
 returns-5 c =
-    let sk3 = c in
-    let p = sk3 in
-    let s = p in
     let e = end-new c.before.before.before.before.before.before.before.before.before.before.before.before.before in
     commit_done _ _ _ _ _ (omega (arith, at_most c.before.before.before.before.before.before.before.before, count-new c.before.before.before.before.before.before.before.before.before.before.before.before.before.before.before.before.before.before.before.before)) (id-enough c.before.before.before.before.before.before.before.before.before.before.before.before.before.before.before.before.before) (omega (arith, e)) (omega (arith, e)) _ _ _ _ e
-    (ap (λ (k : ℕ). k + m c.before.before.before.before.before.before.before.before.before.before.before.before.before.before.before.before.before.before.before.before) p.next_id-next.ensures ∙ id-new c.before.before.before.before.before.before.before.before.before.before.before.before.before.before.before.before.before.before.before.before) (count-new c.before.before.before.before.before.before.before.before.before.before.before.before.before.before.before.before.before.before.before.before)
-    (written_all s.args.buf.now s.args.offsets.now s.args.batch.now s.args.start s.args.kept s.args.first s.args.last
-    s.requires.1.0 s.requires.0.0 s.args.timestamp s.ranges.timestamp.fits p.next_id-next.result (m c.before.before.before.before.before.before.before.before.before.before.before.before.before.before.before.before.before.before.before.before) p.next_id-next.ensures
-    (count_is s.args.batch.now (m c.before.before.before.before.before.before.before.before.before.before.before.before.before.before.before.before.before.before.before.before) p.u32_at-m.ensures) (ids-fit c.before.before.before.before.before.before.before.before) p.bodies_end-at.result p.bodies_end-at.ensures
-    (omega arith) (omega arith) (omega (arith, at_most c.before.before.before.before.before.before.before.before, s.requires.0.1.0))
-    p.put_bodies.new.buf p.put_bodies.new.offsets p.put_bodies.ensures.0 p.put_bodies.ensures.1
-    _ _ _ refl (λ k. omega (arith, sk3.slice_known-3-1.given k)) c.put_manifest.ensures)
+    (ap (λ (k : ℕ). k + m c.before.before.before.before.before.before.before.before.before.before.before.before.before.before.before.before.before.before.before.before) c.next_id-next.ensures ∙ id-new c.before.before.before.before.before.before.before.before.before.before.before.before.before.before.before.before.before.before.before.before) (count-new c.before.before.before.before.before.before.before.before.before.before.before.before.before.before.before.before.before.before.before.before)
+    (written_all c.args.buf.now c.args.offsets.now c.args.batch.now c.args.start c.args.kept c.args.first c.args.last
+    c.requires.1.0 c.requires.0.0 c.args.timestamp c.ranges.timestamp.fits c.next_id-next.result (m c.before.before.before.before.before.before.before.before.before.before.before.before.before.before.before.before.before.before.before.before) c.next_id-next.ensures
+    (count_is c.args.batch.now (m c.before.before.before.before.before.before.before.before.before.before.before.before.before.before.before.before.before.before.before.before) c.u32_at-m.ensures) (ids-fit c.before.before.before.before.before.before.before.before) c.bodies_end-at.result c.bodies_end-at.ensures
+    (omega arith) (omega arith) (omega (arith, at_most c.before.before.before.before.before.before.before.before, c.requires.0.1.0))
+    c.put_bodies.new.buf c.put_bodies.new.offsets c.put_bodies.ensures.0 c.put_bodies.ensures.1
+    _ _ _ refl (λ k. omega (arith, c.slice_known-3-1.given k)) c.put_manifest.ensures)
 
 pub commit_spec : {M : Type 1} → statement M
 commit_spec =

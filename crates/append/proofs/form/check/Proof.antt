@@ -35,13 +35,10 @@ loop-holds c = lines_first _ _
 
 returns-6 : tie.Need-returns-then-not-line_held invariant-loop-i decreases-loop-i
 returns-6 c =
-    let l = c in
-    let e4 = l in
-    let ua = e4 in
-    let whole = batch_lines ua.args.batch.now ua.u32_at-bodies.result
-    ua.u32_at-bodies.ensures (omega arith) (omega arith) (omega arith) (sym e4.is_zero.ensures
-    ∙ e4.if-not-is_zero.false) (omega arith) in
-    lines_stop _ _ _ _ l.loop-i.invariant (omega arith) (sym c.line_held.ensures ∙ c.if-not-line_held.true) ∙ whole
+    let whole = batch_lines c.args.batch.now c.u32_at-bodies.result
+    c.u32_at-bodies.ensures (omega arith) (omega arith) (omega arith) (sym c.is_zero.ensures
+    ∙ c.if-not-is_zero.false) (omega arith) in
+    lines_stop _ _ _ _ c.loop-i.invariant (omega arith) (sym c.line_held.ensures ∙ c.if-not-line_held.true) ∙ whole
 
 add-at-2 : tie.Need-overflow_add-at-in-loop-i invariant-loop-i decreases-loop-i
 add-at-2 c =
@@ -55,11 +52,9 @@ loop-again c = lines_next _ _ _ _ c.loop-i.invariant (omega arith) _
 
 returns-7 : tie.Need-returns invariant-loop-i decreases-loop-i
 returns-7 c =
-    let e4 = c in
-    let ua = e4 in
-    let whole = batch_lines ua.args.batch.now ua.u32_at-bodies.result
-    ua.u32_at-bodies.ensures (omega arith) (omega arith) (omega arith) (sym e4.is_zero.ensures
-    ∙ e4.if-not-is_zero.false) (omega arith) in
+    let whole = batch_lines c.args.batch.now c.u32_at-bodies.result
+    c.u32_at-bodies.ensures (omega arith) (omega arith) (omega arith) (sym c.is_zero.ensures
+    ∙ c.if-not-is_zero.false) (omega arith) in
     lines_last _ _ _ _ c.loop-i.invariant (omega arith) ∙ whole
 
 pub check_spec : {M : Type 1} → statement M

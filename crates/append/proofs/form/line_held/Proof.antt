@@ -29,19 +29,13 @@ returns-6 c = line_offset _ _ _ c.u32_at.ensures c.if-u32_at-at.true
 
 returns-7 : tie.Need-returns
 returns-7 c =
-    let e6 = c in
-    let e5 = e6 in
-    let ua = e5 in
-    let e3 = ua in
-    let e2 = e3 in
-    let e1 = e2 in
     line_holds _ _ _
-    (sym e1.kind_held.ensures ∙ e1.if-not-kind_held.false)
-    (sym e2.kind_reserved.ensures ∙ e2.if-kind_reserved.false)
-    e3.if-line-eq-KIND.false
-    ua.if-line-ne0.false
-    (ap flags_held (sym ua.u16_at.ensures) ∙ sym e5.flags_held.ensures ∙ e5.if-not-flags_held.false)
-    (sym e6.u32_at.ensures ∙ e6.if-u32_at-at.false)
+    (sym c.kind_held.ensures ∙ c.if-not-kind_held.false)
+    (sym c.kind_reserved.ensures ∙ c.if-kind_reserved.false)
+    c.if-line-eq-KIND.false
+    c.if-line-ne0.false
+    (ap flags_held (sym c.u16_at.ensures) ∙ sym c.flags_held.ensures ∙ c.if-not-flags_held.false)
+    (sym c.u32_at.ensures ∙ c.if-u32_at-at.false)
     c.is_zero.ensures
 
 pub line_held_spec : {M : Type 1} → statement M

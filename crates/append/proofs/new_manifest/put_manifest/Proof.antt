@@ -19,14 +19,12 @@ use Rattle.append.proofs.new_manifest.put_manifest.Tie as tie
 
 slice-aggregate-put-payload-2 : tie.Need-slice_bounds-put_payload-end-3
 slice-aggregate-put-payload-2 c =
-    let s = c in
-    sym (length-take-le s.args.at s.args.buf.now (omega (arith, s.requires.1.0.0)))
+    sym (length-take-le c.args.at c.args.buf.now (omega (arith, c.requires.1.0.0)))
 
 put-payload-requires : tie.Need-put_payload-n-requires
 put-payload-requires c κs =
-    let s = c in
-    let m = payload_most (length s.args.offsets.now) s.requires.0.0 in
-    ((omega (arith, m), s.requires.0.1), (s.requires.1.1, omega (arith, s.requires.1.0.1, m)))
+    let m = payload_most (length c.args.offsets.now) c.requires.0.0 in
+    ((omega (arith, m), c.requires.0.1), (c.requires.1.1, omega (arith, c.requires.1.0.1, m)))
 
 -- Where the payload is written: it stands at the front of the list, and ends with a root.
 module _ (pp : tie.After-put_payload-n) where
@@ -62,19 +60,16 @@ slice-aggregate-put-segment c = counted c.before.before.before.before.before
 
 put-segment-requires : tie.Need-put_segment-requires
 put-segment-requires c κs =
-    let pp = c in
-    let s = pp in
-    let at = s.args.at in
-    let buf = s.args.buf.now in
-    let r : round64 (length (take pp.put_payload-n.result pp.put_payload-n.new.buf)) ≡ round64
-    (payload_length (length s.args.offsets.now)) = ap round64 (ap length (front c.before.before.before.before.before) ∙ long c.before.before.before.before.before) in
-    (omega (arith, r, s.requires.1.0.0, length-take (length buf - at) (drop at buf), length-drop at buf), c.payload_sum-sum.ensures)
+    let at = c.args.at in
+    let buf = c.args.buf.now in
+    let r : round64 (length (take c.put_payload-n.result c.put_payload-n.new.buf)) ≡ round64
+    (payload_length (length c.args.offsets.now)) = ap round64 (ap length (front c.before.before.before.before.before) ∙ long c.before.before.before.before.before) in
+    (omega (arith, r, c.requires.1.0.0, length-take (length buf - at) (drop at buf), length-drop at buf), c.payload_sum-sum.ensures)
 
 returns : tie.Need-returns
 returns c =
-    let pp = c in
-    let r : round64 (length (wanted c.before.before.before.before.before.before.before.before)) ≡ round64 (payload_length (length pp.args.offsets.now)) = ap round64 (long c.before.before.before.before.before.before.before.before) in
-    manifest_laid _ _ _ _ _ _ _ _ _ (front c.before.before.before.before.before.before.before.before) c.put_segment.ensures.1 (omega (arith, r, pp.requires.1.0.0))
+    let r : round64 (length (wanted c.before.before.before.before.before.before.before.before)) ≡ round64 (payload_length (length c.args.offsets.now)) = ap round64 (long c.before.before.before.before.before.before.before.before) in
+    manifest_laid _ _ _ _ _ _ _ _ _ (front c.before.before.before.before.before.before.before.before) c.put_segment.ensures.1 (omega (arith, r, c.requires.1.0.0))
 
 pub put_manifest_spec : {M : Type 1} → statement M
 put_manifest_spec =

@@ -48,9 +48,8 @@ same-length-2 c = c.loop-j.invariant.same_length
 
 returns-2 : tie.Need-returns-then-kinds-i-eq-KIND invariant-loop-j decreases-loop-j
 returns-2 c =
-    let p = c in
-    let e = rw take-length at (was_place _ _ (sym p.index_of-place.ensures ∙ p.in-Place.is)) in (
-      mark_manifest _ _ _ _ _ _ p.loop-j.invariant (omega arith) p.requires.1 _ e
+    let e = rw take-length at (was_place _ _ (sym c.index_of-place.ensures ∙ c.in-Place.is)) in (
+      mark_manifest _ _ _ _ _ _ c.loop-j.invariant (omega arith) c.requires.1 _ e
           c.if-kinds-i-eq-KIND.true,
       λ q. absurd (false≢true q),
     )
@@ -63,9 +62,8 @@ same-length-3 c = c.loop-j.invariant.same_length
 
 returns-3 : tie.Need-returns-then-states-i-ne0 invariant-loop-j decreases-loop-j
 returns-3 c =
-    let p = c in
-    let e = rw take-length at (was_place _ _ (sym p.index_of-place.ensures ∙ p.in-Place.is)) in (
-      mark_retired _ _ _ _ _ _ p.loop-j.invariant (omega arith) p.requires.1 _ e
+    let e = rw take-length at (was_place _ _ (sym c.index_of-place.ensures ∙ c.in-Place.is)) in (
+      mark_retired _ _ _ _ _ _ c.loop-j.invariant (omega arith) c.requires.1 _ e
           c.if-states-i-ne0.true,
       λ q. absurd (false≢true q),
     )
@@ -75,9 +73,8 @@ slice-write-states c = omega (arith, within c.before.before.before.before)
 
 loop-again : tie.Need-loop-j-preserved invariant-loop-j decreases-loop-j
 loop-again c =
-    let p = c in
-    let e = rw take-length at (was_place _ _ (sym p.index_of-place.ensures ∙ p.in-Place.is)) in
-    mark_next _ _ _ _ _ _ p.loop-j.invariant (omega arith) p.requires.1 _ e
+    let e = rw take-length at (was_place _ _ (sym c.index_of-place.ensures ∙ c.in-Place.is)) in
+    mark_next _ _ _ _ _ _ c.loop-j.invariant (omega arith) c.requires.1 _ e
     c.if-kinds-i-eq-KIND.false c.if-states-i-ne0.false
 
 same-length-4 : tie.Need-shape_of-states invariant-loop-j decreases-loop-j

@@ -34,25 +34,19 @@ shared-slice-read-if1 c = omega (arith, (line c.before.before.before.before).lin
 
 part-checksum-end : tie.Need-slice_bounds-checksum-end
 part-checksum-end c =
-    let u2 = c in
-    omega (arith, (line c.before.before.before.before.before).room, u2.u32_at-from.ensures, u2.u32_at.ensures)
+    omega (arith, (line c.before.before.before.before.before).room, c.u32_at-from.ensures, c.u32_at.ensures)
 
 returns : tie.Need-returns-then-batch-line-ne-KIND
 returns c =
-    let t = c in
-    let u2 = t in
-    body_other _ _ (line c.before.before.before.before.before.before.before) _ _ u2.u32_at-from.ensures u2.u32_at.ensures t.if-batch-line-ne-KIND.true _ c.checksum.ensures
+    body_other _ _ (line c.before.before.before.before.before.before.before) _ _ c.u32_at-from.ensures c.u32_at.ensures c.if-batch-line-ne-KIND.true _ c.checksum.ensures
 
 part-check-summed-end : tie.Need-slice_bounds-check_summed-end
 part-check-summed-end c =
-    let u2 = c in
-    omega (arith, (line c.before.before.before.before.before).room, u2.u32_at-from.ensures, u2.u32_at.ensures)
+    omega (arith, (line c.before.before.before.before.before).room, c.u32_at-from.ensures, c.u32_at.ensures)
 
 returns-2 : tie.Need-returns
 returns-2 c =
-    let e = c in
-    let u2 = e in
-    body_checked _ _ (line c.before.before.before.before.before.before.before) _ _ u2.u32_at-from.ensures u2.u32_at.ensures e.if-batch-line-ne-KIND.false _ c.check_summed.ensures
+    body_checked _ _ (line c.before.before.before.before.before.before.before) _ _ c.u32_at-from.ensures c.u32_at.ensures c.if-batch-line-ne-KIND.false _ c.check_summed.ensures
 
 pub body_summed_spec : {M : Type 1} → statement M
 body_summed_spec =

@@ -27,46 +27,38 @@ module _ (u : tie.After-u32_at-count invariant-loop-j decreases-loop-j) where
 
 u32-at-requires : tie.Need-u32_at-count-requires invariant-loop-j decreases-loop-j
 u32-at-requires c κs =
-    let s = c in
-    omega (arith, held_bounds s.args.batch.now s.requires.0)
+    omega (arith, held_bounds c.args.batch.now c.requires.0)
 
 loop-holds : tie.Need-loop-j-init invariant-loop-j decreases-loop-j
 loop-holds c = sums_first _ _
 
 body-summed-requires : tie.Need-body_summed-body-requires invariant-loop-j decreases-loop-j
 body-summed-requires c κs =
-    let u = c in
-    (u.requires.0, omega (arith, count c.before.before, bodies_count u.args.batch.now))
+    (c.requires.0, omega (arith, count c.before.before, bodies_count c.args.batch.now))
 
 same_length : tie.Need-shape_of-sums-in-Refused invariant-loop-j decreases-loop-j
 same_length c = c.loop-j.invariant.many
 
 returns : tie.Need-returns-in-Refused invariant-loop-j decreases-loop-j
 returns c =
-    let b = c in
-    let l = b in
-    sums_stop _ _ _ _ l.loop-j.invariant (omega (arith, count c.before.before.before.before)) _ (body_count l.args.batch.now)
-    (sym b.body_summed-body.ensures ∙ c.in-Refused.is)
+    sums_stop _ _ _ _ c.loop-j.invariant (omega (arith, count c.before.before.before.before)) _ (body_count c.args.batch.now)
+    (sym c.body_summed-body.ensures ∙ c.in-Refused.is)
 
 slice-write-sums : tie.Need-bounds-sums-j invariant-loop-j decreases-loop-j
 slice-write-sums c =
-    let l = c in
-    omega (arith, count c.before.before.before.before, room c.before.before.before.before, l.loop-j.invariant.many)
+    omega (arith, count c.before.before.before.before, room c.before.before.before.before, c.loop-j.invariant.many)
 
 loop-again : tie.Need-loop-j-preserved invariant-loop-j decreases-loop-j
 loop-again c =
-    let b = c in
-    let l = b in
-    sums_next _ _ _ _ l.loop-j.invariant (omega (arith, count c.before.before.before.before)) (room c.before.before.before.before) _
-    (sym b.body_summed-body.ensures ∙ c.in-Sound.is)
+    sums_next _ _ _ _ c.loop-j.invariant (omega (arith, count c.before.before.before.before)) (room c.before.before.before.before) _
+    (sym c.body_summed-body.ensures ∙ c.in-Sound.is)
 
 same-length-2 : tie.Need-shape_of-sums invariant-loop-j decreases-loop-j
 same-length-2 c = c.loop-j.invariant.many
 
 returns-2 : tie.Need-returns invariant-loop-j decreases-loop-j
 returns-2 c =
-    let u = c in
-    sums_last _ _ _ _ _ c.loop-j.invariant (bodies_count u.args.batch.now) (omega (arith, count c.before.before, bodies_count u.args.batch.now))
+    sums_last _ _ _ _ _ c.loop-j.invariant (bodies_count c.args.batch.now) (omega (arith, count c.before.before, bodies_count c.args.batch.now))
 
 pub vectors_bad_spec : {M : Type 1} → statement M
 vectors_bad_spec =

@@ -19,7 +19,7 @@ module _ (a : tie.In-At-a) where
   inside : a.in-At-a.last ≤ length a.append-a.new.buf
   inside =
       end_inside a.args.file.now _ _ _ a.args.batch.now a.args.retire.now a.args.timestamp
-      a.fits.timestamp.fits bytes _ _ _ _ _ _ _ _ a.in-At.is a.in-At-a.is a.compact-c.ensures.0
+      a.ranges.timestamp.fits bytes _ _ _ _ _ _ _ _ a.in-At.is a.in-At-a.is a.compact-c.ensures.0
       a.compact-c.ensures.1 a.append-a.ensures
 
 slice-reshare-prefix-open : tie.Need-slice_bounds-open-end
@@ -30,23 +30,18 @@ slice-aggregate-open c = sym (length-take-le _ _ (inside c))
 
 returns : tie.Need-returns-in-Refused
 returns c =
-    let k = c in
-    way_first _ _ _ _ _ _ _ _ c.in-Refused.is k.compact-c.ensures.0 k.compact-c.ensures.1
+    way_first _ _ _ _ _ _ _ _ c.in-Refused.is c.compact-c.ensures.0 c.compact-c.ensures.1
 
 returns-2 : tie.Need-returns-in-Refused-a
 returns-2 c =
-    let p = c in
-    let b = p in
-    let k = b in
-    way_second _ _ _ _ _ _ _ _ _ _ _ _ _ b.in-At.is c.in-Refused-a.is k.compact-c.ensures.0
-    k.compact-c.ensures.1 p.append-a.ensures
+    way_second _ _ _ _ _ _ _ _ _ _ _ _ _ c.in-At.is c.in-Refused-a.is c.compact-c.ensures.0
+    c.compact-c.ensures.1 c.append-a.ensures
 
 returns-3 : tie.Need-returns-in-At-a
 returns-3 c =
-    let a = c in
-    way_opened a.args.file.now _ _ _ a.args.batch.now a.args.retire.now a.args.timestamp
-    a.ranges.timestamp.fits (bytes c.before) _ _ _ _ _ _ _ _ a.in-At.is a.in-At-a.is a.compact-c.ensures.0
-    a.compact-c.ensures.1 a.append-a.ensures _ c.«open».ensures
+    way_opened c.args.file.now _ _ _ c.args.batch.now c.args.retire.now c.args.timestamp
+    c.ranges.timestamp.fits (bytes c.before) _ _ _ _ _ _ _ _ c.in-At.is c.in-At-a.is c.compact-c.ensures.0
+    c.compact-c.ensures.1 c.append-a.ensures _ c.«open».ensures
 
 pub compact_and_append_spec : {M : Type 1} → statement M
 compact_and_append_spec =

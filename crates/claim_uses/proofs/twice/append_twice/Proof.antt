@@ -14,7 +14,7 @@ module _ (b : tie.In-At-b) where
   inside : b.in-At-b.last ≤ length b.append-b.new.buf
   inside =
       end_inside b.args.buf.now _ _ b.args.first.now b.args.second.now b.args.retire.now
-      b.args.timestamp b.fits.timestamp.fits _ _ _ _ _ _ _ _ b.in-At.is b.in-At-b.is
+      b.args.timestamp b.ranges.timestamp.fits _ _ _ _ _ _ _ _ b.in-At.is b.in-At-b.is
       b.append-a.ensures b.append-b.ensures
 
 slice-reshare-prefix-open : tie.Need-slice_bounds-open-end
@@ -28,44 +28,29 @@ returns c = way_first _ _ _ _ _ _ _ _ c.in-Refused.is c.append-a.ensures
 
 returns-2 : tie.Need-returns-in-Refused-b
 returns-2 c =
-    let a2 = c in
-    let a2' = a2 in
-    way_second _ _ _ _ _ _ _ _ _ _ _ _ _ a2'.in-At.is c.in-Refused-b.is
-    a2'.append-a.ensures a2.append-b.ensures
+    way_second _ _ _ _ _ _ _ _ _ _ _ _ _ c.in-At.is c.in-Refused-b.is
+    c.append-a.ensures c.append-b.ensures
 
 returns-3 : tie.Need-returns-in-Refused-o
 returns-3 c =
-    let b = c in
-    let a = b in
-    let f = b in
-    let s = b in
-    way_long s.args.buf.now _ _ s.args.first.now s.args.second.now s.args.retire.now
-    s.args.timestamp s.fits.timestamp.fits _ _ _ _ _ _ _ _ a.in-At.is b.in-At-b.is
-    f.append-a.ensures b.append-b.ensures _
-    (sym c.before.«open».ensures ∙ c.in-Refused-o.is)
+    way_long c.args.buf.now _ _ c.args.first.now c.args.second.now c.args.retire.now
+    c.args.timestamp c.ranges.timestamp.fits _ _ _ _ _ _ _ _ c.in-At.is c.in-At-b.is
+    c.append-a.ensures c.append-b.ensures _
+    (sym c.before.open-o.ensures ∙ c.in-Refused-o.is)
 
 returns-4 : tie.Need-returns-in-NoManifest
 returns-4 c =
-    let b = c in
-    let a = b in
-    let f = b in
-    let s = b in
-    way_none s.args.buf.now _ _ s.args.first.now s.args.second.now s.args.retire.now
-    s.args.timestamp s.fits.timestamp.fits _ _ _ _ _ _ _ _ a.in-At.is b.in-At-b.is
-    f.append-a.ensures b.append-b.ensures _
-    (sym c.before.«open».ensures ∙ c.in-NoManifest.is)
+    way_none c.args.buf.now _ _ c.args.first.now c.args.second.now c.args.retire.now
+    c.args.timestamp c.ranges.timestamp.fits _ _ _ _ _ _ _ _ c.in-At.is c.in-At-b.is
+    c.append-a.ensures c.append-b.ensures _
+    (sym c.before.open-o.ensures ∙ c.in-NoManifest.is)
 
 returns-5 : tie.Need-returns-in-At-o
 returns-5 c =
-    let o = c in
-    let b = o in
-    let a = b in
-    let f = b in
-    let s = b in
-    way_at s.args.buf.now _ _ s.args.first.now s.args.second.now s.args.retire.now
-    s.args.timestamp s.fits.timestamp.fits _ _ _ _ _ _ _ _ a.in-At.is b.in-At-b.is
-    f.append-a.ensures b.append-b.ensures _ _ _ _ _
-    (sym o.«open».ensures ∙ c.in-At-o.is)
+    way_at c.args.buf.now _ _ c.args.first.now c.args.second.now c.args.retire.now
+    c.args.timestamp c.ranges.timestamp.fits _ _ _ _ _ _ _ _ c.in-At.is c.in-At-b.is
+    c.append-a.ensures c.append-b.ensures _ _ _ _ _
+    (sym c.open-o.ensures ∙ c.in-At-o.is)
 
 pub append_twice_spec : {M : Type 1} → statement M
 append_twice_spec =

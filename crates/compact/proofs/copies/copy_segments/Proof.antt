@@ -43,27 +43,20 @@ u64-at-requires c κs = omega (arith, inside c.before)
 
 round-up-requires : tie.Need-round_up-size-requires invariant-loop-i decreases-loop-i
 round-up-requires c κs =
-    let b = c in
-    let n = length_at b.args.file.now (get_or b.loop-i.offsets b.loop-i.i 0) in
+    let n = length_at c.args.file.now (get_or c.loop-i.offsets c.loop-i.i 0) in
     omega (arith, inside c.before.before, c.u64_at-length.ensures, round64_ge n)
 
 copy-at-requires : tie.Need-copy_at-requires invariant-loop-i decreases-loop-i
 copy-at-requires c κs =
-    let r = c in
-    let b = r in
     (omega (arith, room c.before.before.before.before, size_is c.before), omega (arith, inside c.before.before.before.before, size_is c.before))
 
 add_at : tie.Need-overflow_add-at invariant-loop-i decreases-loop-i
 add_at c =
-    let r = c in
     omega (arith, room c.before.before.before.before.before.before.before, size_is c.before.before.before.before)
 
 loop-again : tie.Need-loop-i-preserved invariant-loop-i decreases-loop-i
 loop-again c =
-    let k = c in
-    let r = k in
-    let b = r in
-    copy_next _ _ _ _ _ _ _ b.loop-i.invariant (more c.before.before.before.before.before.before.before) b.requires.0 b.requires.1 _ _ (size_is c.before.before.before.before) k.copy_at.ensures
+    copy_next _ _ _ _ _ _ _ c.loop-i.invariant (more c.before.before.before.before.before.before.before) c.requires.0 c.requires.1 _ _ (size_is c.before.before.before.before) c.copy_at.ensures
 
 returns : tie.Need-returns invariant-loop-i decreases-loop-i
 returns c = copy_last _ _ _ _ _ _ _ c.loop-i.invariant (omega (arith, c.loop-i.invariant.many))

@@ -104,26 +104,22 @@ module _ (q : tie.After-put_places) where
 
 copy-segments-requires : tie.Need-copy_segments-requires
 copy-segments-requires c κs =
-    let p = c in
     let n = ap length (laid c.before.before.before.before)
-    ∙ length_over (b c.before.before.before.before) (at c.before.before.before.before + 64) (payload_at (f c.before.before.before.before) (os c.before.before.before.before) (ss c.before.before.before.before) (at c.before.before.before.before) p.args.id)
-    (omega (arith, room c.before.before.before.before, old_length (f c.before.before.before.before) (os c.before.before.before.before) p.requires.0.1 (ss c.before.before.before.before) (at c.before.before.before.before) p.args.id)) in
-    (p.requires.0.1, omega (arith, n, room c.before.before.before.before, p.requires.1))
+    ∙ length_over (b c.before.before.before.before) (at c.before.before.before.before + 64) (payload_at (f c.before.before.before.before) (os c.before.before.before.before) (ss c.before.before.before.before) (at c.before.before.before.before) c.args.id)
+    (omega (arith, room c.before.before.before.before, old_length (f c.before.before.before.before) (os c.before.before.before.before) c.requires.0.1 (ss c.before.before.before.before) (at c.before.before.before.before) c.args.id)) in
+    (c.requires.0.1, omega (arith, n, room c.before.before.before.before, c.requires.1))
 
 put-places-requires : tie.Need-put_places-requires
 put-places-requires c κs =
-    let k = c in
     omega (arith, same_length c.before.before.before.before.before, places_count c.before.before.before.before.before, room c.before.before.before.before.before.before.before.before.before.before, entries_fit (n c.before.before.before.before.before.before.before.before.before.before.before))
 
 add-end : tie.Need-overflow_add-end
 add-end c =
-    let e = c in
-    omega (arith, e.put_payload-len.ensures.0, fits c.before.before.before.before.before.before.before.before.before.before.before.before.before.before, e.requires.1)
+    omega (arith, c.put_payload-len.ensures.0, fits c.before.before.before.before.before.before.before.before.before.before.before.before.before.before, c.requires.1)
 
 part-payload-sum-end : tie.Need-slice_bounds-payload_sum-end
 part-payload-sum-end c =
-    let q = c in
-    omega (arith, q.put_payload-len.ensures.0, room c.before.before.before.before.before.before.before.before.before.before.before.before.before, same_length c.before.before.before.before.before.before.before.before, q.put_places.auto.buf)
+    omega (arith, c.put_payload-len.ensures.0, room c.before.before.before.before.before.before.before.before.before.before.before.before.before, same_length c.before.before.before.before.before.before.before.before, c.put_places.auto.buf)
 
 payload-sum-requires : tie.Need-payload_sum-requires
 payload-sum-requires c κs = payload_rooted _ _ _ _ _ _ (whole c.before.before.before)
@@ -131,17 +127,11 @@ payload-sum-requires c κs = payload_rooted _ _ _ _ _ _ (whole c.before.before.b
 returns : tie.Need-returns
 unfolding file_at
 returns c =
-    let h = c in
-    let x = h in
-    let y = x in
-    let q = y in
-    let e = q in
-    let r = e in
-    file_put (f c.before.before.before.before.before.before.before.before.before.before.before.before.before.before.before.before.before.before.before.before) (os c.before.before.before.before.before.before.before.before.before.before.before.before.before.before.before.before.before.before.before.before) r.requires.0.1 (ss c.before.before.before.before.before.before.before.before.before.before.before.before.before.before.before.before.before.before.before.before) (at c.before.before.before.before.before.before.before.before.before.before.before.before.before.before.before.before.before.before.before.before) r.args.id (b c.before.before.before.before.before.before.before.before.before.before.before.before.before.before.before.before.before.before.before.before) r.requires.1.0.0 (room c.before.before.before.before.before.before.before.before.before.before.before.before.before.before.before.before.before.before.before.before) _ (put c.before.before.before.before.before.before.before.before.before) _ _ _ _ e.put_payload-len.ensures.0
-    (hash_of _ _ _ y.payload_sum.ensures x.hash_by-hash.ensures ∙ ap content_hash (whole c.before.before.before.before.before.before.before.before.before)) h.put_header.ensures
+    file_put (f c.before.before.before.before.before.before.before.before.before.before.before.before.before.before.before.before.before.before.before.before) (os c.before.before.before.before.before.before.before.before.before.before.before.before.before.before.before.before.before.before.before.before) c.requires.0.1 (ss c.before.before.before.before.before.before.before.before.before.before.before.before.before.before.before.before.before.before.before.before) (at c.before.before.before.before.before.before.before.before.before.before.before.before.before.before.before.before.before.before.before.before) c.args.id (b c.before.before.before.before.before.before.before.before.before.before.before.before.before.before.before.before.before.before.before.before) c.requires.1.0.0 (room c.before.before.before.before.before.before.before.before.before.before.before.before.before.before.before.before.before.before.before.before) _ (put c.before.before.before.before.before.before.before.before.before) _ _ _ _ c.put_payload-len.ensures.0
+    (hash_of _ _ _ c.payload_sum.ensures c.hash_by-hash.ensures ∙ ap content_hash (whole c.before.before.before.before.before.before.before.before.before)) c.put_header.ensures
     ∙ ap (λ (zs : List ℕ). over (b c.before.before.before.before.before.before.before.before.before.before.before.before.before.before.before.before.before.before.before.before) 0 (copies_at (f c.before.before.before.before.before.before.before.before.before.before.before.before.before.before.before.before.before.before.before.before) (os c.before.before.before.before.before.before.before.before.before.before.before.before.before.before.before.before.before.before.before.before)
-    ++ segment 5 0 r.args.id r.args.timestamp (payload_at (copies_at (f c.before.before.before.before.before.before.before.before.before.before.before.before.before.before.before.before.before.before.before.before) (os c.before.before.before.before.before.before.before.before.before.before.before.before.before.before.before.before.before.before.before.before)) (places_at (f c.before.before.before.before.before.before.before.before.before.before.before.before.before.before.before.before.before.before.before.before) 0 (os c.before.before.before.before.before.before.before.before.before.before.before.before.before.before.before.before.before.before.before.before)) zs (at c.before.before.before.before.before.before.before.before.before.before.before.before.before.before.before.before.before.before.before.before) r.args.id)))
-    (zeros_front (n c.before.before.before.before.before.before.before.before.before.before.before.before.before.before.before.before.before.before.before.before.before) 1024 r.requires.0.0)
+    ++ segment 5 0 c.args.id c.args.timestamp (payload_at (copies_at (f c.before.before.before.before.before.before.before.before.before.before.before.before.before.before.before.before.before.before.before.before) (os c.before.before.before.before.before.before.before.before.before.before.before.before.before.before.before.before.before.before.before.before)) (places_at (f c.before.before.before.before.before.before.before.before.before.before.before.before.before.before.before.before.before.before.before.before) 0 (os c.before.before.before.before.before.before.before.before.before.before.before.before.before.before.before.before.before.before.before.before)) zs (at c.before.before.before.before.before.before.before.before.before.before.before.before.before.before.before.before.before.before.before.before) c.args.id)))
+    (zeros_front (n c.before.before.before.before.before.before.before.before.before.before.before.before.before.before.before.before.before.before.before.before.before) 1024 c.requires.0.0)
 
 pub put_file_spec : {M : Type 1} → statement M
 put_file_spec =

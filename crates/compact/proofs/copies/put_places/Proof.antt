@@ -32,9 +32,7 @@ put-requires c κs = omega (arith, room c.before.before)
 
 loop-again : tie.Need-loop-i-preserved invariant-loop-i decreases-loop-i
 loop-again c =
-    let p = c in
-    let l = p in
-    placed_next _ _ _ _ _ l.loop-i.invariant p.loop-i-test.true l.requires _ p.put.ensures
+    placed_next _ _ _ _ _ c.loop-i.invariant c.loop-i-test.true c.requires _ c.put.ensures
 
 same_length : tie.Need-shape_of-buf invariant-loop-i decreases-loop-i
 same_length c = c.loop-i.invariant.same_length

@@ -54,24 +54,19 @@ module _ (e : tie.Else-not-is_whole invariant-loop-i decreases-loop-i) where
 
 loop-again : tie.Need-loop-i-preserved-then-file-manifest-ne0 invariant-loop-i decreases-loop-i
 loop-again c =
-    let b = c in
-    select_retired _ _ _ b.requires.1.1 _ _ _ _ _ b.loop-i.invariant (omega arith) (entry c.before.before.before) c.if-file-manifest-ne0.true
+    select_retired _ _ _ c.requires.1.1 _ _ _ _ _ c.loop-i.invariant (omega arith) (entry c.before.before.before) c.if-file-manifest-ne0.true
 
 shared-slice-read-if2 : tie.Need-bounds-file-p invariant-loop-i decreases-loop-i
 shared-slice-read-if2 c =
-    let b = c in
-    omega (arith, entry c.before.before.before.before, b.requires.1.1.within)
+    omega (arith, entry c.before.before.before.before, c.requires.1.1.within)
 
 loop-again-2 : tie.Need-loop-i-preserved-then-file-p-eq-KIND invariant-loop-i decreases-loop-i
 loop-again-2 c =
-    let e1 = c in
-    let b = e1 in
-    select_manifest _ _ _ b.requires.1.1 _ _ _ _ _ b.loop-i.invariant (omega arith) (entry c.before.before.before.before.before) e1.if-file-manifest-ne0.false c.if-file-p-eq-KIND.true
+    select_manifest _ _ _ c.requires.1.1 _ _ _ _ _ c.loop-i.invariant (omega arith) (entry c.before.before.before.before.before) c.if-file-manifest-ne0.false c.if-file-p-eq-KIND.true
 
 u64-at-requires : tie.Need-u64_at-length-requires invariant-loop-i decreases-loop-i
 u64-at-requires c κs =
-    let b = c in
-    omega (arith, entry c.before.before.before.before.before, b.requires.1.1.within)
+    omega (arith, entry c.before.before.before.before.before, c.requires.1.1.within)
 
 is-whole-requires : tie.Need-is_whole-requires invariant-loop-i decreases-loop-i
 is-whole-requires c κs = omega (arith, (entry c.before.before.before.before.before.before).numbered, c.u64_at-length.ensures)
@@ -81,27 +76,17 @@ same_length c = many c.before.before.before.before.before.before.before.before
 
 returns : tie.Need-returns-then-not-is_whole invariant-loop-i decreases-loop-i
 returns c =
-    let u = c in
-    let e2 = u in
-    let e1 = e2 in
-    let b = e1 in
-    select_damaged _ _ _ b.requires.1.1 _ _ _ _ _ b.loop-i.invariant (omega arith) (entry c.before.before.before.before.before.before.before.before) e1.if-file-manifest-ne0.false e2.if-file-p-eq-KIND.false _ u.u64_at-length.ensures
+    select_damaged _ _ _ c.requires.1.1 _ _ _ _ _ c.loop-i.invariant (omega arith) (entry c.before.before.before.before.before.before.before.before) c.if-file-manifest-ne0.false c.if-file-p-eq-KIND.false _ c.u64_at-length.ensures
     (sym c.is_whole.ensures ∙ c.if-not-is_whole.true)
 
 loop-again-3 : tie.Need-loop-i-preserved invariant-loop-i decreases-loop-i
 loop-again-3 c =
-    let e3 = c in
-    let u = e3 in
-    let e2 = u in
-    let e1 = e2 in
-    let b = e1 in
-    select_next _ _ _ b.requires.1.1 _ _ _ _ _ b.loop-i.invariant (omega arith) (entry c.before.before.before.before.before.before.before.before.before) e1.if-file-manifest-ne0.false e2.if-file-p-eq-KIND.false _ u.u64_at-length.ensures
-    (sym e3.is_whole.ensures ∙ e3.if-not-is_whole.false) _ (ap (λ n. 64 + n) c.round_up.ensures)
+    select_next _ _ _ c.requires.1.1 _ _ _ _ _ c.loop-i.invariant (omega arith) (entry c.before.before.before.before.before.before.before.before.before) c.if-file-manifest-ne0.false c.if-file-p-eq-KIND.false _ c.u64_at-length.ensures
+    (sym c.is_whole.ensures ∙ c.if-not-is_whole.false) _ (ap (λ n. 64 + n) c.round_up.ensures)
 
 same-length-2 : tie.Need-shape_of-offsets invariant-loop-i decreases-loop-i
 same-length-2 c =
-    let s = c in
-    (c.loop-i.invariant s.requires.1.1.found s.requires.1.1.opens).many
+    (c.loop-i.invariant c.requires.1.1.found c.requires.1.1.opens).many
 
 returns-2 : tie.Need-returns invariant-loop-i decreases-loop-i
 returns-2 c = select_last _ _ _ c.requires.1.1 _ _ _ _ _ c.loop-i.invariant (omega arith)

@@ -7,8 +7,7 @@ use Rattle.confirm.proofs.entries.copy_at.Tie as tie
 
 returns : tie.Need-returns
 returns c =
-    let s = c in
-    copied _ _ s.args.file.now _ s.args.from s.args.n c.copy.ensures s.requires.0 s.requires.1
+    copied _ _ c.args.file.now _ c.args.from c.args.n c.copy.ensures c.requires.0 c.requires.1
 
 pub copy_at_spec : {M : Type 1} → statement M
 copy_at_spec =

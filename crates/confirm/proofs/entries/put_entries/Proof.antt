@@ -19,15 +19,11 @@ loop-holds c = entries_first _ _ _ _
 
 put-entry-requires : tie.Need-put_entry-requires invariant-loop-i decreases-loop-i
 put-entry-requires c κs =
-    let l = c in
-    let same_length = l.loop-i.invariant.same_length in (omega arith, l.requires.1 l.loop-i.i (omega arith))
+    let same_length = c.loop-i.invariant.same_length in (omega arith, c.requires.1 c.loop-i.i (omega arith))
 
 loop-again : tie.Need-loop-i-preserved invariant-loop-i decreases-loop-i
 loop-again c =
-    let pe = c in
-    let l = pe in
-    let s = l in
-    entries_next _ _ _ _ _ _ l.loop-i.i l.loop-i.invariant (omega arith) s.requires.1 s.requires.0.0 pe.put_entry.ensures pe.put_entry.auto.buf
+    entries_next _ _ _ _ _ _ c.loop-i.i c.loop-i.invariant (omega arith) c.requires.1 c.requires.0.0 c.put_entry.ensures c.put_entry.auto.buf
 
 same_length : tie.Need-shape_of-buf invariant-loop-i decreases-loop-i
 same_length c = c.loop-i.invariant.same_length

@@ -7,17 +7,7 @@ use Rattle.confirm.proofs.entries.put_entry.Goals as goal
 
 pub returns : goal.returns
 returns c =
-    let p3 = c in
-    let p2 = p3 in
-    let pb2 = p2 in
-    let pb = pb2 in
-    let cw2 = pb in
-    let cw = cw2 in
-    let p = cw in
-    let u = p in
-    let k = u in
-    let s = k in
-    entry_laid s.args.buf.now s.args.file.now _ _ _ _ _ _ _ s.args.at s.args.offset s.args.state _
-    (λ i. omega (arith, k.shared_slice_known-2-1.given i)) u.u16_at-flags.ensures s.requires.0 s.requires.1
-    p.put.ensures cw.copy_words.ensures cw2.copy_words-2.ensures pb.put_byte.ensures
-    pb2.put_byte-2.ensures p2.put-2.ensures p3.put-3.ensures
+    entry_laid c.args.buf.now c.args.file.now _ _ _ _ _ _ _ c.args.at c.args.offset c.args.state _
+    (λ i. omega (arith, c.shared_slice_known-2-1.given i)) c.u16_at-flags.ensures c.requires.0 c.requires.1
+    c.put.ensures c.copy_words.ensures c.copy_words-2.ensures c.put_byte.ensures
+    c.put_byte-2.ensures c.put-2.ensures c.put-3.ensures

@@ -12,23 +12,15 @@ use Rattle.confirm.proofs.payload.payload_sum.Tie as tie
 
 slice-aggregate-checksum : tie.Need-slice_bounds-checksum-end
 slice-aggregate-checksum c =
-    let s = c in
-    sym (length-take-le (length s.args.payload.now - 4096) s.args.payload.now (omega arith))
+    sym (length-take-le (length c.args.payload.now - 4096) c.args.payload.now (omega arith))
 
 extend-by-requires : tie.Need-extend_by-requires
 extend-by-requires c κs =
-    let x = c in
-    let u = x in
-    let k = u in
-    let s = k in
-    root_known s.args.payload.now (λ i. omega (arith, k.shared_slice_known-1.given i)) s.requires _ _ u.u32_at-stored.ensures x.extend-known.ensures
+    root_known c.args.payload.now (λ i. omega (arith, c.shared_slice_known-1.given i)) c.requires _ _ c.u32_at-stored.ensures c.extend-known.ensures
 
 returns : tie.Need-returns
 returns c =
-    let m = c in
-    let k = m in
-    let s = k in
-    payload_summed s.args.payload.now (λ i. omega (arith, k.shared_slice_known-1.given i)) s.requires _ _ m.checksum.ensures c.extend_by.ensures
+    payload_summed c.args.payload.now (λ i. omega (arith, c.shared_slice_known-1.given i)) c.requires _ _ c.checksum.ensures c.extend_by.ensures
 
 pub payload_sum_spec : {M : Type 1} → statement M
 payload_sum_spec =

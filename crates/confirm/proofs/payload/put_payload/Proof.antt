@@ -37,37 +37,27 @@ room : (cp : tie.After-clear_part) → cp.round_up-filled.result + 4096 ≤ leng
     cp.clear_part.new.buf
 unfolding payload_length record_by round64
 room cp =
-    let pe = cp in
-    let p3 = pe in
-    omega (arith, p3.requires.0.0, p3.round_up-filled.ensures, kept cp.before.before.before.before.before.before.before.before, pe.put_entries.auto.buf, cp.clear_part.auto.buf)
+    omega (arith, cp.requires.0.0, cp.round_up-filled.ensures, kept cp.before.before.before.before.before.before.before.before, cp.put_entries.auto.buf, cp.clear_part.auto.buf)
 
 put-requires-2 : tie.Need-put-requires-2
 unfolding payload_length record_by round64
 put-requires-2 c κs =
-    let p = c in
-    omega (arith, p.requires.0.0, p.put.auto.s)
+    omega (arith, c.requires.0.0, c.put.auto.s)
 
 put-requires-3 : tie.Need-put-requires-3
 unfolding payload_length record_by round64
 put-requires-3 c κs =
-    let q = c in
-    let p = q in
-    omega (arith, p.requires.0.0, p.put.auto.s, q.put-2.auto.s)
+    omega (arith, c.requires.0.0, c.put.auto.s, c.put-2.auto.s)
 
 put-entries-requires : tie.Need-put_entries-requires
 unfolding payload_length record_by round64
 put-entries-requires c κs =
-    let p3 = c in
-    let s = p3 in
-    ((omega (arith, s.requires.0.0, kept c.before.before.before), s.requires.0.1), s.requires.1.0)
+    ((omega (arith, c.requires.0.0, kept c.before.before.before), c.requires.0.1), c.requires.1.0)
 
 clear-part-requires : tie.Need-clear_part-requires
 unfolding payload_length record_by round64
 clear-part-requires c κs =
-    let pe = c in
-    let p3 = pe in
-    let s = p3 in
-    (omega (arith, p3.round_up-filled.ensures), omega (arith, s.requires.0.0, p3.round_up-filled.ensures, kept c.before.before.before.before.before.before.before, pe.put_entries.auto.buf))
+    (omega (arith, c.round_up-filled.ensures), omega (arith, c.requires.0.0, c.round_up-filled.ensures, kept c.before.before.before.before.before.before.before, c.put_entries.auto.buf))
 
 sub-put-root : tie.Need-slice_bounds-put_root-count
 unfolding payload_length record_by round64
@@ -80,9 +70,7 @@ part-put-root-start c = omega (arith, room c.before.before)
 put-root-requires : tie.Need-put_root-requires
 unfolding payload_length record_by round64
 put-root-requires c κs =
-    let cp = c in
-    let s = cp in
-    (simp (length-take, length-drop) (omega (arith, room c.before.before.before)), s.requires.1.1)
+    (simp (length-take, length-drop) (omega (arith, room c.before.before.before)), c.requires.1.1)
 
 add-result : tie.Need-overflow_add-result
 unfolding payload_length record_by round64
@@ -94,23 +82,18 @@ add-result c =
 returns : tie.Need-returns
 unfolding payload_length record_by
 returns c =
-    let cp = c in
-    let pe = cp in
-    let p3 = pe in
-    let ru = p3 in
-    let s = p3 in
-    let buf = s.args.buf.now in
-    let file = s.args.file.now in
-    let id = s.args.id in
-    let offset = s.args.offset in
-    let offsets = s.args.offsets.now in
-    let states = s.args.states.now in (
-      ap (λ (n : ℕ). n + 4096) ru.round_up-filled.ensures,
-      payload_laid buf file offsets states offset id s.requires.1.0 s.requires.0.0 _ _ _ ru.round_up-filled.ensures
-          (filled buf file offsets states offset id s.requires.1.0 s.requires.0.0 _ _ _ _ ru.round_up-filled.ensures
-          (head_laid buf file offsets states offset id s.requires.1.0 s.requires.0.0 _ _ _ p3.put.ensures
-          p3.put-2.ensures p3.put-3.ensures)
-          pe.put_entries.ensures cp.clear_part.ensures)
+    let buf = c.args.buf.now in
+    let file = c.args.file.now in
+    let id = c.args.id in
+    let offset = c.args.offset in
+    let offsets = c.args.offsets.now in
+    let states = c.args.states.now in (
+      ap (λ (n : ℕ). n + 4096) c.round_up-filled.ensures,
+      payload_laid buf file offsets states offset id c.requires.1.0 c.requires.0.0 _ _ _ c.round_up-filled.ensures
+          (filled buf file offsets states offset id c.requires.1.0 c.requires.0.0 _ _ _ _ c.round_up-filled.ensures
+          (head_laid buf file offsets states offset id c.requires.1.0 c.requires.0.0 _ _ _ c.put.ensures
+          c.put-2.ensures c.put-3.ensures)
+          c.put_entries.ensures c.clear_part.ensures)
           c.put_root.ensures,
     )
 

@@ -48,46 +48,37 @@ module _ (p6 : tie.After-put-6) where
 
 room : (cp : tie.After-clear_part) → 4096 ≤ length cp.clear_part.new.buf
 room cp =
-    let p6 = cp in
-    omega (arith, cp.clear_part.auto.buf, kept cp.before.before.before.before, p6.requires.0)
+    omega (arith, cp.clear_part.auto.buf, kept cp.before.before.before.before, cp.requires.0)
 
 clear-part-requires : tie.Need-clear_part-requires
 clear-part-requires c κs =
-    let p6 = c in
-    (omega arith, omega (arith, p6.requires.0, kept c.before.before.before))
+    (omega arith, omega (arith, c.requires.0, kept c.before.before.before))
 
 slice-reshare-prefix-checksum : tie.Need-slice_bounds-checksum-end
 slice-reshare-prefix-checksum c = omega (arith, room c.before.before)
 
 slice-aggregate-checksum : tie.Need-slice_bounds-checksum-end-2
 slice-aggregate-checksum c =
-    let cp = c in
-    sym (length-take-le 40 cp.clear_part.new.buf (omega (arith, room c.before.before)))
+    sym (length-take-le 40 c.clear_part.new.buf (omega (arith, room c.before.before)))
 
 put-requires-7 : tie.Need-put-requires-7
 put-requires-7 c κs = omega (arith, room c.before.before.before.before.before)
 
 same_length : tie.Need-shape_of-buf
 same_length c =
-    let cs = c in
-    let cp = cs in
-    c.put-7.auto.s ∙ cp.clear_part.auto.buf ∙ kept c.before.before.before.before.before.before.before.before.before.before.before.before
+    c.put-7.auto.s ∙ c.clear_part.auto.buf ∙ kept c.before.before.before.before.before.before.before.before.before.before.before.before
 
 returns : tie.Need-returns
 unfolding payload_length record_by
 returns c =
-    let cs = c in
-    let cp = cs in
-    let p6 = cp in
-    let ru2 = p6.before in
-    let s = ru2 in
-    let offset = s.args.offset in
-    root_laid s.args.c offset s.args.id s.args.buf.now _ _ cs.checksum-sum.result _ s.requires.0
-    (fields_laid s.args.buf.now s.args.c offset s.args.id s.requires.0 _ _ _ _ _ _ _ _ _ _ (omega arith)
+    let ru2 = c.before in
+    let offset = ru2.args.offset in
+    root_laid ru2.args.c offset ru2.args.id ru2.args.buf.now _ _ c.checksum-sum.result _ ru2.requires.0
+    (fields_laid ru2.args.buf.now ru2.args.c offset ru2.args.id ru2.requires.0 _ _ _ _ _ _ _ _ _ _ (omega arith)
     (ap (λ (n : ℕ). offset + 64 + n) (ru2.round_up-size.ensures ∙ ap (λ (n : ℕ). round64 (n + 4096)) ru2.round_up.ensures))
-    p6.copy.ensures p6.put.ensures p6.put-2.ensures p6.put-3.ensures p6.put-4.ensures p6.put-5.ensures
-    p6.put-6.ensures cp.clear_part.ensures)
-    (omega arith) cs.checksum-sum.ensures
+    c.copy.ensures c.put.ensures c.put-2.ensures c.put-3.ensures c.put-4.ensures c.put-5.ensures
+    c.put-6.ensures c.clear_part.ensures)
+    (omega arith) c.checksum-sum.ensures
     (ap (λ (x : ℕ). bit_xor x 0xFFFF_FFFF) c.times-crc.ensures) c.put-7.ensures
 
 pub put_root_spec : {M : Type 1} → statement M

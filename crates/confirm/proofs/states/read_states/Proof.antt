@@ -21,8 +21,7 @@ slice-write-states c = let same_length = c.loop-i.invariant.same_length in omega
 
 loop-again : tie.Need-loop-i-preserved invariant-loop-i decreases-loop-i
 loop-again c =
-    let l = c in
-    read_next _ _ _ _ l.loop-i.i l.loop-i.invariant (omega arith) l.requires.0
+    read_next _ _ _ _ c.loop-i.i c.loop-i.invariant (omega arith) c.requires.0
 
 same_length : tie.Need-shape_of-states invariant-loop-i decreases-loop-i
 same_length c = c.loop-i.invariant.same_length

@@ -28,9 +28,8 @@ loop-again c =
 returns : tie.Need-returns invariant-loop-i decreases-loop-i
 returns c =
     let l = c.loop-i in
-    let s = c in
     let e : l.i ≡ c.size_of-n.result = omega arith in
-    moved s.args.by_far s.args.w.now l.w s.args.by (λ n h. l.invariant.1.1.front n (omega (arith, e, c.size_of-n.ensures)))
+    moved c.args.by_far c.args.w.now l.w c.args.by (λ n h. l.invariant.1.1.front n (omega (arith, e, c.size_of-n.ensures)))
 
 pub bring_down_spec : {M : Type 1} → statement M
 bring_down_spec =

@@ -26,15 +26,11 @@ far-message-requires c κs = (search rules, (length-replicate {A = ℕ} 5275 0, 
 returns : tie.Need-returns
 unfolding reach_of
 returns c =
-    let c2 = c in
-    let c1 = c2 in
-    let c0 = c1 in
-    let start = c0 in
-    let register : held far c0.put.new.s 0 ≡ start.args.c =
-    ap (λ (l : List ℕ). held far l 0) c0.put.ensures ∙ started true _ start.args.c start.requires (λ n h. zeros_at 13467 n) in
+    let register : held far c.put.new.s 0 ≡ c.args.c =
+    ap (λ (l : List ℕ). held far l 0) c.put.ensures ∙ started true _ c.args.c c.requires (λ n h. zeros_at 13467 n) in
     c.near_in.ensures
     ∙ ap (λ (x : ℕ). bit_xor x 0xFFFF_FFFF)
-    (c2.far_message.ensures ∙ c1.take_in-at.ensures.0 ∙ ap (λ (x : ℕ). crc_from x start.args.s.now) register)
+    (c.far_message.ensures ∙ c.take_in-at.ensures.0 ∙ ap (λ (x : ℕ). crc_from x c.args.s.now) register)
 
 pub by_far_spec : {M : Type 1} → statement M
 by_far_spec =

@@ -13,16 +13,12 @@ use Rattle.crc32c.proofs.window.far_message.Tie as tie
 returns : tie.Need-returns
 unfolding held sum
 returns c =
-    let c3 = c in
-    let c2 = c3 in
-    let c1 = c2 in
-    let start = c1 in
-    let w = start.args.w.now in
-    let at = start.args.at in
-    let l0 : Leaves start.args.m.now 5275 0 = (start.requires.1.0, ap (λ (l : List ℕ). span l 0 5275) start.requires.0 ∙ span_none 5275 5275) in
-    let l1 = added _ _ w at 2751 5275 _ l0 c1.add.ensures in
-    let l2 = added _ _ w at 4508 5275 _ l1 c2.add-2.ensures in
-    left_by _ 5275 _ (added _ _ w at 5275 5275 _ l2 c3.add-3.ensures)
+    let w = c.args.w.now in
+    let at = c.args.at in
+    let l0 : Leaves c.args.m.now 5275 0 = (c.requires.1.0, ap (λ (l : List ℕ). span l 0 5275) c.requires.0 ∙ span_none 5275 5275) in
+    let l1 = added _ _ w at 2751 5275 _ l0 c.add.ensures in
+    let l2 = added _ _ w at 4508 5275 _ l1 c.add-2.ensures in
+    left_by _ 5275 _ (added _ _ w at 5275 5275 _ l2 c.add-3.ensures)
 
 pub far_message_spec : {M : Type 1} → statement M
 far_message_spec = tie.close (tie.spec (search rules) (search rules) (search rules) (search rules) returns)

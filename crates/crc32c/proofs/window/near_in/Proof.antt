@@ -25,17 +25,12 @@ near-message-requires c κs = (search rules, (search rules, search rules))
 returns : tie.Need-returns
 unfolding reach_of size_of
 returns c =
-    let c3 = c in
-    let c2 = c3 in
-    let c1 = c2 in
-    let c0 = c1 in
-    let start = c0 in
-    let register : held near c1.put.new.s 0 ≡ start.args.c =
-    ap (λ (l : List ℕ). held near l 0) c1.put.ensures
-    ∙ started false _ start.args.c start.requires.0 (λ n h. ap (λ (l : List ℕ). get_or l n 0) c0.clear_part.ensures ∙ cleared start.args.w.now 299 n h) in
+    let register : held near c.put.new.s 0 ≡ c.args.c =
+    ap (λ (l : List ℕ). held near l 0) c.put.ensures
+    ∙ started false _ c.args.c c.requires.0 (λ n h. ap (λ (l : List ℕ). get_or l n 0) c.clear_part.ensures ∙ cleared c.args.w.now 299 n h) in
     c.by_lanes.ensures
     ∙ ap (λ (x : ℕ). bit_xor x 0xFFFF_FFFF)
-    (c3.near_message.ensures ∙ c2.take_in-at.ensures.0 ∙ ap (λ (x : ℕ). crc_from x start.args.s.now) register)
+    (c.near_message.ensures ∙ c.take_in-at.ensures.0 ∙ ap (λ (x : ℕ). crc_from x c.args.s.now) register)
 
 pub near_in_spec : {M : Type 1} → statement M
 near_in_spec =

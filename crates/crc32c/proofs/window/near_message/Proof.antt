@@ -13,20 +13,14 @@ use Rattle.crc32c.proofs.window.near_message.Tie as tie
 returns : tie.Need-returns
 unfolding held sum
 returns c =
-    let c5 = c in
-    let c4 = c5 in
-    let c3 = c4 in
-    let c2 = c3 in
-    let c1 = c2 in
-    let start = c1 in
-    let w = start.args.w.now in
-    let at = start.args.at in
-    let l0 : Leaves start.args.m.now 299 0 = (start.requires.1.0, ap (λ (l : List ℕ). span l 0 299) start.requires.0 ∙ span_none 299 299) in
-    let l1 = added _ _ w at 21 299 _ l0 c1.add.ensures in
-    let l2 = added _ _ w at 62 299 _ l1 c2.add-2.ensures in
-    let l3 = added _ _ w at 134 299 _ l2 c3.add-3.ensures in
-    let l4 = added _ _ w at 142 299 _ l3 c4.add-4.ensures in
-    left_by _ 299 _ (added _ _ w at 299 299 _ l4 c5.add-5.ensures)
+    let w = c.args.w.now in
+    let at = c.args.at in
+    let l0 : Leaves c.args.m.now 299 0 = (c.requires.1.0, ap (λ (l : List ℕ). span l 0 299) c.requires.0 ∙ span_none 299 299) in
+    let l1 = added _ _ w at 21 299 _ l0 c.add.ensures in
+    let l2 = added _ _ w at 62 299 _ l1 c.add-2.ensures in
+    let l3 = added _ _ w at 134 299 _ l2 c.add-3.ensures in
+    let l4 = added _ _ w at 142 299 _ l3 c.add-4.ensures in
+    left_by _ 299 _ (added _ _ w at 299 299 _ l4 c.add-5.ensures)
 
 pub near_message_spec : {M : Type 1} → statement M
 near_message_spec = tie.close (tie.spec (search rules) (search rules) (search rules) (search rules) (search rules) (search rules) returns)

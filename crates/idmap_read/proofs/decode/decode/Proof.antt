@@ -18,8 +18,7 @@ returns-3 c = broken _ _ (head_raw_interval _ _ (omega arith) (omega arith) (ome
 
 returns-4 : tie.Need-returns-then-s-eq0
 returns-4 c =
-    let s = c in
-    let e = head_raw s.args.count s.args.s.now (omega arith) (omega arith) (omega arith) (omega arith) (omega arith) (omega arith) in
+    let e = head_raw c.args.count c.args.s.now (omega arith) (omega arith) (omega arith) (omega arith) (omega arith) (omega arith) in
     rw e c.decode_raw.ensures
 
 returns-5 : tie.Need-returns-then-r-eq0
@@ -27,10 +26,8 @@ returns-5 c = broken _ _ (head_delta_interval _ _ (omega arith) (omega arith) (o
 
 returns-6 : tie.Need-returns-then-s-eq1
 returns-6 c =
-    let ua = c in
-    let s = ua in
-    let e = head_delta s.args.count s.args.s.now (omega arith) (omega arith) (omega arith) (omega arith) (omega arith) (omega arith) in
-    rw (e, ← ua.u16_at-r.ensures) c.decode_delta.ensures
+    let e = head_delta c.args.count c.args.s.now (omega arith) (omega arith) (omega arith) (omega arith) (omega arith) (omega arith) in
+    rw (e, ← c.u16_at-r.ensures) c.decode_delta.ensures
 
 returns-7 : tie.Need-returns
 returns-7 c = broken _ _ (head_other _ _ (omega arith) (omega arith) (omega arith) (omega arith) (omega arith) (omega arith))

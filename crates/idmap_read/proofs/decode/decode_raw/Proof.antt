@@ -45,20 +45,17 @@ loop2-holds c =
 
 returns-2 : tie.Need-returns-then-not-follows invariant-loop-k decreases-loop-k invariant-loop-i decreases-loop-i invariant-loop-i-2 decreases-loop-i-2
 returns-2 c =
-    let u = c in
-    let l = u.loop-k in
+    let l = c.loop-k in
     broken _ _
-    (raw_room _ _ (omega arith) ∙ raw_stop _ _ _ _ _ l.invariant.0 (omega arith) _ u.u64_at-x.ensures
+    (raw_room _ _ (omega arith) ∙ raw_stop _ _ _ _ _ l.invariant.0 (omega arith) _ c.u64_at-x.ensures
     (sym c.follows.ensures ∙ c.if-not-follows.true))
 
 loop2-again : tie.Need-loop-k-preserved invariant-loop-k decreases-loop-k invariant-loop-i decreases-loop-i invariant-loop-i-2 decreases-loop-i-2
 loop2-again c =
-    let u = c in
-    let l = u in
-    let i = l.loop-i.i in
-    let e : i + (l.loop-k.k + 1) ≡ i + l.loop-k.k + 1 = omega arith in (
+    let i = c.loop-i.i in
+    let e : i + (c.loop-k.k + 1) ≡ i + c.loop-k.k + 1 = omega arith in (
       rw e
-          (raw_next _ _ _ _ _ l.loop-k.invariant.0 (omega arith) _ u.u64_at-x.ensures
+          (raw_next _ _ _ _ _ c.loop-k.invariant.0 (omega arith) _ c.u64_at-x.ensures
           (sym c.follows.ensures ∙ c.if-not-follows.false) (omega arith)),
       search rules,
     )
@@ -74,18 +71,16 @@ loop3-holds c = (c.loop-i.invariant.0, refl)
 
 returns-3 : tie.Need-returns-then-not-follows-2 invariant-loop-k decreases-loop-k invariant-loop-i decreases-loop-i invariant-loop-i-2 decreases-loop-i-2
 returns-3 c =
-    let u = c in
     broken _ _
-    (raw_room _ _ (omega arith) ∙ raw_stop _ _ _ _ _ u.loop-i-2.invariant.0 (omega arith) _
-    u.u64_at-x-in-loop-i-2.ensures (sym c.follows-in-loop-i-2.ensures ∙ c.if-not-follows-2.true))
+    (raw_room _ _ (omega arith) ∙ raw_stop _ _ _ _ _ c.loop-i-2.invariant.0 (omega arith) _
+    c.u64_at-x-in-loop-i-2.ensures (sym c.follows-in-loop-i-2.ensures ∙ c.if-not-follows-2.true))
 
 loop3-again : tie.Need-loop-i-2-preserved invariant-loop-k decreases-loop-k invariant-loop-i decreases-loop-i invariant-loop-i-2 decreases-loop-i-2
-loop3-again c =
-    let u = c in (
-      raw_next _ _ _ _ _ u.loop-i-2.invariant.0 (omega arith) _ u.u64_at-x-in-loop-i-2.ensures
-          (sym c.follows-in-loop-i-2.ensures ∙ c.if-not-follows-2.false) (omega arith),
-      search rules,
-    )
+loop3-again c = (
+  raw_next _ _ _ _ _ c.loop-i-2.invariant.0 (omega arith) _ c.u64_at-x-in-loop-i-2.ensures
+      (sym c.follows-in-loop-i-2.ensures ∙ c.if-not-follows-2.false) (omega arith),
+  search rules,
+)
 
 returns-4 : tie.Need-returns invariant-loop-k decreases-loop-k invariant-loop-i decreases-loop-i invariant-loop-i-2 decreases-loop-i-2
 returns-4 c =

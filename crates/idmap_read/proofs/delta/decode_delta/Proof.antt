@@ -61,18 +61,14 @@ id-at-requires c κs =
 returns-2 : tie.Need-returns-in-Refused invariant-loop-i-2 decreases-loop-i-2 invariant-loop-i decreases-loop-i
 unfolding groups
 returns-2 c =
-    let x = c in
-    let l = x in
-    let w = first_refused _ _ _ _ _ _ _ _ _ l.loop-i.invariant.0 (omega arith) (l.loop-i.invariant.1.0 (omega arith)) x.in-Refused.number
-    (sym x.id_at-x.ensures ∙ x.in-Refused.is) in
-    broken_by _ _ _ w.0 (delta_room l.args.r _ _ (omega arith) ∙ w.1)
+    let w = first_refused _ _ _ _ _ _ _ _ _ c.loop-i.invariant.0 (omega arith) (c.loop-i.invariant.1.0 (omega arith)) c.in-Refused.number
+    (sym c.id_at-x.ensures ∙ c.in-Refused.is) in
+    broken_by _ _ _ w.0 (delta_room c.args.r _ _ (omega arith) ∙ w.1)
 
 add-pos : tie.Need-overflow_add-pos invariant-loop-i-2 decreases-loop-i-2 invariant-loop-i decreases-loop-i
 add-pos c =
-    let x = c in
-    let l = x in
-    let n = first_next _ _ _ _ _ _ _ _ _ l.loop-i.invariant.0 (omega arith) (l.loop-i.invariant.1.0 (omega arith)) x.in-Id.id
-    x.in-Id.length (sym x.id_at-x.ensures ∙ x.in-Id.is) (omega arith) (omega arith) in
+    let n = first_next _ _ _ _ _ _ _ _ _ c.loop-i.invariant.0 (omega arith) (c.loop-i.invariant.1.0 (omega arith)) c.in-Id.id
+    c.in-Id.length (sym c.id_at-x.ensures ∙ c.in-Id.is) (omega arith) (omega arith) in
     let fits = n.inside in
     omega arith
 
@@ -81,14 +77,12 @@ add-g c = let begun = c.loop-i.invariant.0.begun in omega arith
 
 loop2-holds : tie.Need-loop-i-2-init invariant-loop-i-2 decreases-loop-i-2 invariant-loop-i decreases-loop-i
 loop2-holds c =
-    let x = c in
-    let l = x in
-    let r = l.args.r in
-    let n = first_next _ _ _ _ _ _ _ _ _ l.loop-i.invariant.0 (omega arith) (l.loop-i.invariant.1.0 (omega arith)) x.in-Id.id
-    x.in-Id.length (sym x.id_at-x.ensures ∙ x.in-Id.is) (omega arith) (omega arith) in
-    let z = l.loop-i.invariant.1.0 (omega arith) in
-    let group = l.loop-i.invariant.0.group in
-    let m : (l.loop-i.g + 1) * r ≡ l.loop-i.g * r + r = rw add-one (suc-mul _ _) in
+    let r = c.args.r in
+    let n = first_next _ _ _ _ _ _ _ _ _ c.loop-i.invariant.0 (omega arith) (c.loop-i.invariant.1.0 (omega arith)) c.in-Id.id
+    c.in-Id.length (sym c.id_at-x.ensures ∙ c.in-Id.is) (omega arith) (omega arith) in
+    let z = c.loop-i.invariant.1.0 (omega arith) in
+    let group = c.loop-i.invariant.0.group in
+    let m : (c.loop-i.g + 1) * r ≡ c.loop-i.g * r + r = rw add-one (suc-mul _ _) in
     let e = c.group_end-stop.ensures in (
       record {
         at = n;
@@ -102,11 +96,10 @@ loop2-holds c =
     )
 
 loop-again : tie.Need-loop-i-preserved invariant-loop-i-2 decreases-loop-i-2 invariant-loop-i decreases-loop-i
-loop-again c =
-    let l = c in (
-      l.loop-i-2.invariant.0.at,
-      ((λ h. omega (arith, l.loop-i-2.invariant.0.full (omega arith))), l.loop-i-2.invariant.1.0.1 ∙ rw length-set l.loop-i.invariant.1.1),
-    )
+loop-again c = (
+  c.loop-i-2.invariant.0.at,
+  ((λ h. omega (arith, c.loop-i-2.invariant.0.full (omega arith))), c.loop-i-2.invariant.1.0.1 ∙ rw length-set c.loop-i.invariant.1.1),
+)
 
 id-at-requires-2 : tie.Need-id_at-x-requires-in-loop-i-2 invariant-loop-i-2 decreases-loop-i-2 invariant-loop-i decreases-loop-i
 id-at-requires-2 c κs =
@@ -116,54 +109,45 @@ id-at-requires-2 c κs =
 
 same-length-2 : tie.Need-shape_of-ids-in-Refused-x invariant-loop-i-2 decreases-loop-i-2 invariant-loop-i decreases-loop-i
 same-length-2 c =
-    let l = c in
-    l.loop-i-2.invariant.1.0.1 ∙ rw length-set l.loop-i.invariant.1.1
+    c.loop-i-2.invariant.1.0.1 ∙ rw length-set c.loop-i.invariant.1.1
 
 returns-3 : tie.Need-returns-in-Refused-x invariant-loop-i-2 decreases-loop-i-2 invariant-loop-i decreases-loop-i
 unfolding groups
 returns-3 c =
-    let x = c in
-    let l = x in
-    let s = l in
-    let w = inside_refused _ _ _ _ _ _ _ _ _ l.loop-i-2.invariant.0.at (omega arith) (omega arith) _ (omega arith) x.in-Refused-x.number
-    (sym x.id_at-x-in-loop-i-2.ensures ∙ x.in-Refused-x.is) in
-    broken_by _ _ _ w.0 (delta_room s.args.r _ _ (omega arith) ∙ w.1)
+    let w = inside_refused _ _ _ _ _ _ _ _ _ c.loop-i-2.invariant.0.at (omega arith) (omega arith) _ (omega arith) c.in-Refused-x.number
+    (sym c.id_at-x-in-loop-i-2.ensures ∙ c.in-Refused-x.is) in
+    broken_by _ _ _ w.0 (delta_room c.args.r _ _ (omega arith) ∙ w.1)
 
 add-pos-2 : tie.Need-overflow_add-pos-in-Id-x invariant-loop-i-2 decreases-loop-i-2 invariant-loop-i decreases-loop-i
 add-pos-2 c =
-    let x = c in
-    let l = x in
-    let n = inside_next _ _ _ _ _ _ _ _ _ l.loop-i-2.invariant.0.at (omega arith) (omega arith) _ (omega arith) x.in-Id-x.id
-    x.in-Id-x.length (sym x.id_at-x-in-loop-i-2.ensures ∙ x.in-Id-x.is)
-    l.requires.1.1.0 (omega arith) in
+    let n = inside_next _ _ _ _ _ _ _ _ _ c.loop-i-2.invariant.0.at (omega arith) (omega arith) _ (omega arith) c.in-Id-x.id
+    c.in-Id-x.length (sym c.id_at-x-in-loop-i-2.ensures ∙ c.in-Id-x.is)
+    c.requires.1.1.0 (omega arith) in
     let fits = n.inside in
     omega arith
 
 loop2-again : tie.Need-loop-i-2-preserved invariant-loop-i-2 decreases-loop-i-2 invariant-loop-i decreases-loop-i
 loop2-again c =
-    let x = c in
-    let l = x in
-    let n = inside_next _ _ _ _ _ _ _ _ _ l.loop-i-2.invariant.0.at (omega arith) (omega arith) _ (omega arith) x.in-Id-x.id
-    x.in-Id-x.length (sym x.id_at-x-in-loop-i-2.ensures ∙ x.in-Id-x.is)
-    l.requires.1.1.0 (omega arith) in
-    let m = length-set l.loop-i-2.ids l.loop-i-2.i x.in-Id-x.id in (
+    let n = inside_next _ _ _ _ _ _ _ _ _ c.loop-i-2.invariant.0.at (omega arith) (omega arith) _ (omega arith) c.in-Id-x.id
+    c.in-Id-x.length (sym c.id_at-x-in-loop-i-2.ensures ∙ c.in-Id-x.is)
+    c.requires.1.1.0 (omega arith) in
+    let m = length-set c.loop-i-2.ids c.loop-i-2.i c.in-Id-x.id in (
       record {
         at = n;
         inside = omega arith;
-        most = l.loop-i-2.invariant.0.most;
-        ends = l.loop-i-2.invariant.0.ends;
-        full = l.loop-i-2.invariant.0.full;
+        most = c.loop-i-2.invariant.0.most;
+        ends = c.loop-i-2.invariant.0.ends;
+        full = c.loop-i-2.invariant.0.full;
         room = omega arith;
       },
-      ((omega arith, m ∙ l.loop-i-2.invariant.1.0.1), l.loop-i-2.invariant.1.1),
+      ((omega arith, m ∙ c.loop-i-2.invariant.1.0.1), c.loop-i-2.invariant.1.1),
     )
 
 returns-4 : tie.Need-returns invariant-loop-i-2 decreases-loop-i-2 invariant-loop-i decreases-loop-i
 unfolding groups
 returns-4 c =
-    let s = c in
-    whole _ _ s.args.count c.loop-i.ids
-    (delta_room s.args.r _ _ (omega arith) ∙ delta_last _ _ _ _ _ _ _ _ _ _ c.loop-i.invariant.0
+    whole _ _ c.args.count c.loop-i.ids
+    (delta_room c.args.r _ _ (omega arith) ∙ delta_last _ _ _ _ _ _ _ _ _ _ c.loop-i.invariant.0
     (omega arith)) (omega arith)
 
 pub decode_delta_spec : {M : Type 1} → statement M

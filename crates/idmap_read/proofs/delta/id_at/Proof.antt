@@ -11,24 +11,19 @@ next-id-requires c κs = c.requires.0
 
 returns : tie.Need-returns-in-Refused
 returns c =
-    let v = c in
-    at_bad _ _ _ _ _ v.in-Refused.number (sym v.read_at-v.ensures ∙ v.in-Refused.is)
+    at_bad _ _ _ _ _ c.in-Refused.number (sym c.read_at-v.ensures ∙ c.in-Refused.is)
 
 returns-2 : tie.Need-returns-in-Refused-x
 returns-2 c =
-    let x = c in
-    let v = x in
-    at_refused _ _ _ _ _ v.in-Value.value v.in-Value.length
-    (sym v.read_at-v.ensures ∙ v.in-Value.is) x.in-Refused-x.number
-    (sym x.next_id-x.ensures ∙ x.in-Refused-x.is)
+    at_refused _ _ _ _ _ c.in-Value.value c.in-Value.length
+    (sym c.read_at-v.ensures ∙ c.in-Value.is) c.in-Refused-x.number
+    (sym c.next_id-x.ensures ∙ c.in-Refused-x.is)
 
 returns-3 : tie.Need-returns-in-Id
 returns-3 c =
-    let x = c in
-    let v = x in
-    at_id _ _ _ _ _ v.in-Value.value v.in-Value.length
-    (sym v.read_at-v.ensures ∙ v.in-Value.is) x.in-Id.id
-    (sym x.next_id-x.ensures ∙ x.in-Id.is)
+    at_id _ _ _ _ _ c.in-Value.value c.in-Value.length
+    (sym c.read_at-v.ensures ∙ c.in-Value.is) c.in-Id.id
+    (sym c.next_id-x.ensures ∙ c.in-Id.is)
 
 pub id_at_spec : {M : Type 1} → statement M
 id_at_spec =

@@ -16,14 +16,12 @@ returns c = next_place _ _ _ _ _ c.if-left-eq0.true (λ e. c.if-u32_at-at.true (
 
 returns-2 : tie.Need-returns-then-follows
 returns-2 c =
-    let e2 = c in
-    next_start _ _ _ _ _ e2.if-left-eq0.true (sym e2.u32_at.ensures ∙ e2.if-u32_at-at.false)
+    next_start _ _ _ _ _ c.if-left-eq0.true (sym c.u32_at.ensures ∙ c.if-u32_at-at.false)
     (sym c.follows.ensures ∙ c.if-follows.true)
 
 returns-3 : tie.Need-returns-then-left-eq0
 returns-3 c =
-    let e2 = c in
-    next_low _ _ _ _ _ e2.if-left-eq0.true (sym e2.u32_at.ensures ∙ e2.if-u32_at-at.false)
+    next_low _ _ _ _ _ c.if-left-eq0.true (sym c.u32_at.ensures ∙ c.if-u32_at-at.false)
     (sym c.follows.ensures ∙ c.if-follows.false)
 
 returns-4 : tie.Need-returns-then-value-eq0
@@ -31,16 +29,14 @@ returns-4 c = next_none _ _ _ _ _ (omega arith) c.if-value-eq0.true
 
 returns-5 : tie.Need-returns-then-value-prev
 returns-5 c =
-    let s = c in
-    let some : s.args.i ≡ 0 → ⊥ = λ z. c.if-left-eq0.false (s.requires.1 z) in
-    let low = low_some s.args.i s.args.prev (omega arith) in
+    let some : c.args.i ≡ 0 → ⊥ = λ z. c.if-left-eq0.false (c.requires.1 z) in
+    let low = low_some c.args.i c.args.prev (omega arith) in
     next_over _ _ _ _ _ (omega arith) (omega arith) (omega arith)
 
 returns-6 : tie.Need-returns
 returns-6 c =
-    let s = c in
-    let some : s.args.i ≡ 0 → ⊥ = λ z. c.if-left-eq0.false (s.requires.1 z) in
-    let low = low_some s.args.i s.args.prev (omega arith) in
+    let some : c.args.i ≡ 0 → ⊥ = λ z. c.if-left-eq0.false (c.requires.1 z) in
+    let low = low_some c.args.i c.args.prev (omega arith) in
     next_sum _ _ _ _ _ (omega arith) (omega arith) (omega arith) _ (omega arith)
 
 pub next_id_spec : {M : Type 1} → statement M

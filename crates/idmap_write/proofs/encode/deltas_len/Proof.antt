@@ -28,10 +28,9 @@ add_total c =
 
 loop-again : tie.Need-loop-i-preserved invariant-loop-i decreases-loop-i
 loop-again c =
-    let d = c in
     rw c.left_after-left.ensures
-    (len_next _ _ _ _ _ _ _ d.loop-i.invariant (omega arith) d.delta_len-total.ensures.0
-    d.delta_len-total.ensures.1)
+    (len_next _ _ _ _ _ _ _ c.loop-i.invariant (omega arith) c.delta_len-total.ensures.0
+    c.delta_len-total.ensures.1)
 
 returns : tie.Need-returns invariant-loop-i decreases-loop-i
 returns c = len_last _ _ _ _ _ _ c.loop-i.invariant (omega arith)

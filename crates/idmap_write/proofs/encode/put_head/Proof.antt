@@ -13,21 +13,15 @@ put-requires c κs = simp length-set (omega arith)
 
 put-requires-2 : tie.Need-put-requires-2
 put-requires-2 c κs =
-    let p = c in
-    let s = p in
-    omega (arith, p.put.auto.s, length-set s.args.buf.now 0 s.args.encoding)
+    omega (arith, c.put.auto.s, length-set c.args.buf.now 0 c.args.encoding)
 
 same_length : tie.Need-shape_of-buf
 same_length c =
-    let p = c in
-    let s = p in
-    c.put-2.auto.s ∙ p.put.auto.s ∙ length-set s.args.buf.now 0 s.args.encoding
+    c.put-2.auto.s ∙ c.put.auto.s ∙ length-set c.args.buf.now 0 c.args.encoding
 
 returns : tie.Need-returns
 returns c =
-    let p = c in
-    let s = p in
-    head_laid s.args.buf.now _ _ _ _ _ s.requires p.put.ensures c.put-2.ensures
+    head_laid c.args.buf.now _ _ _ _ _ c.requires c.put.ensures c.put-2.ensures
 
 pub put_head_spec : {M : Type 1} → statement M
 put_head_spec = tie.close (tie.spec (search rules) put-requires put-requires-2 same_length returns)

@@ -22,9 +22,7 @@ put-requires c κs = let same_length = c.loop-i.invariant.same_length in omega a
 
 loop-again : tie.Need-loop-i-preserved invariant-loop-i decreases-loop-i
 loop-again c =
-    let p = c in
-    let l = p in
-    raw_next _ _ _ _ l.loop-i.i l.loop-i.invariant (omega arith) l.requires p.put.ensures p.put.auto.s
+    raw_next _ _ _ _ c.loop-i.i c.loop-i.invariant (omega arith) c.requires c.put.ensures c.put.auto.s
 
 same_length : tie.Need-shape_of-buf invariant-loop-i decreases-loop-i
 same_length c = c.loop-i.invariant.same_length

@@ -27,36 +27,30 @@ loop-holds c = entries_first _ _ _ _ (omega arith)
 
 add-put-entry : tie.Need-overflow_add-manifest invariant-loop-i decreases-loop-i
 add-put-entry c =
-    let b = c in
-    omega (arith, entry c.before.before, b.requires.1.1.within)
+    omega (arith, entry c.before.before, c.requires.1.1.within)
 
 mul-put-entry : tie.Need-overflow_mul-i invariant-loop-i decreases-loop-i
 mul-put-entry c =
-    let b = c in
-    omega (arith, entry c.before.before, b.requires.1.1.within)
+    omega (arith, entry c.before.before, c.requires.1.1.within)
 
 add-put-entry-2 : tie.Need-overflow_add-manifest-in-loop-i invariant-loop-i decreases-loop-i
 add-put-entry-2 c =
-    let b = c in
-    omega (arith, entry c.before.before, b.requires.1.1.within)
+    omega (arith, entry c.before.before, c.requires.1.1.within)
 
 add-put-entry-3 : tie.Need-overflow_add-manifest-in-loop-i-2 invariant-loop-i decreases-loop-i
 add-put-entry-3 c =
-    let b = c in
-    omega (arith, entry c.before.before, b.requires.1.1.within)
+    omega (arith, entry c.before.before, c.requires.1.1.within)
 
 shared-slice-read-put-entry : tie.Need-bounds-file-manifest invariant-loop-i decreases-loop-i
 shared-slice-read-put-entry c =
-    let b = c in
-    omega (arith, entry c.before.before.before, b.requires.1.1.within)
+    omega (arith, entry c.before.before.before, c.requires.1.1.within)
 
 put-entry-requires : tie.Need-put_entry-end-requires invariant-loop-i decreases-loop-i
 put-entry-requires c κs =
-    let b = c in
     let a = entry c.before.before.before in
-    let w = same_room b.loop-i.invariant.writes in (
+    let w = same_room c.loop-i.invariant.writes in (
       omega (arith, a.numbered.room, a.numbered.length_is),
-      omega (arith, b.loop-i.invariant.short, b.requires.0.1),
+      omega (arith, c.loop-i.invariant.short, c.requires.0.1),
     )
 
 add-i : tie.Need-overflow_add-i invariant-loop-i decreases-loop-i
@@ -64,10 +58,8 @@ add-i c = omega (arith, (entry c.before.before.before.before.before.before).at_m
 
 loop-again : tie.Need-loop-i-preserved invariant-loop-i decreases-loop-i
 loop-again c =
-    let pe = c in
-    let b = pe in
-    entries_next _ _ _ b.requires.1.1 _ _ (omega arith) (entry c.before.before.before.before.before.before) _ _ _ _ _ _ b.loop-i.invariant
-    pe.put_entry-end.ensures.0 pe.put_entry-end.ensures.1
+    entries_next _ _ _ c.requires.1.1 _ _ (omega arith) (entry c.before.before.before.before.before.before) _ _ _ _ _ _ c.loop-i.invariant
+    c.put_entry-end.ensures.0 c.put_entry-end.ensures.1
 
 same_length : tie.Need-shape_of-text invariant-loop-i decreases-loop-i
 same_length c = same_room c.loop-i.invariant.writes

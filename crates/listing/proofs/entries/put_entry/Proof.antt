@@ -13,8 +13,7 @@ same_length c = c.put_segment.auto.text
 returns : tie.Need-returns-then-state-eq0
 unfolding ascii
 returns c =
-    let ps = c in
-    (state_live _ _ _ ps.if-state-eq0.true ps.put_segment.ensures.0, ps.put_segment.ensures.1)
+    (state_live _ _ _ c.if-state-eq0.true c.put_segment.ensures.0, c.put_segment.ensures.1)
 
 same-length-2 : tie.Need-shape_of-text
 same-length-2 c = c.put_segment-2.auto.text
@@ -22,8 +21,7 @@ same-length-2 c = c.put_segment-2.auto.text
 returns-2 : tie.Need-returns
 unfolding ascii
 returns-2 c =
-    let ps2 = c in
-    (state_retired _ _ _ ps2.if-state-eq0.false ps2.put_segment-2.ensures.0, ps2.put_segment-2.ensures.1)
+    (state_retired _ _ _ c.if-state-eq0.false c.put_segment-2.ensures.0, c.put_segment-2.ensures.1)
 
 pub put_entry_spec : {M : Type 1} → statement M
 put_entry_spec =

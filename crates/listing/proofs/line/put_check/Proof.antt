@@ -13,8 +13,7 @@ same_length c = c.put_bytes.auto.buf
 returns : tie.Need-returns-then-whole
 unfolding ascii
 returns c =
-    let pb = c in
-    (check_ok _ pb.if-whole.true pb.put_bytes.ensures, omega (arith, pb.put_bytes.ensures.ends))
+    (check_ok _ c.if-whole.true c.put_bytes.ensures, omega (arith, c.put_bytes.ensures.ends))
 
 same-length-2 : tie.Need-shape_of-text
 same-length-2 c = c.put_bytes-2.auto.buf
@@ -22,8 +21,7 @@ same-length-2 c = c.put_bytes-2.auto.buf
 returns-2 : tie.Need-returns
 unfolding ascii
 returns-2 c =
-    let pb2 = c in
-    (check_bad _ pb2.if-whole.false pb2.put_bytes-2.ensures, omega (arith, pb2.put_bytes-2.ensures.ends))
+    (check_bad _ c.if-whole.false c.put_bytes-2.ensures, omega (arith, c.put_bytes-2.ensures.ends))
 
 pub put_check_spec : {M : Type 1} → statement M
 put_check_spec =

@@ -13,9 +13,7 @@ same_length c = c.put_number.auto.buf ∙ c.put_number-next.auto.buf
 returns : tie.Need-returns
 unfolding ascii
 returns c =
-    let pn2 = c in
-    let pn = pn2 in
-    (then pn.put_number-next.ensures.0 pn2.put_number.ensures.0, omega (arith, pn.put_number-next.ensures.1, pn2.put_number.ensures.1))
+    (then c.put_number-next.ensures.0 c.put_number.ensures.0, omega (arith, c.put_number-next.ensures.1, c.put_number.ensures.1))
 
 pub put_columns_spec : {M : Type 1} → statement M
 put_columns_spec =

@@ -12,24 +12,21 @@ cast-kind c = omega (arith, c.shared_slice_known-3-1.given (c.args.p + 5))
 
 same_length : tie.Need-shape_of-text
 same_length c =
-    let pb = c in
-    let pc2 = pb in
-    c.put_check.auto.text ∙ pb.put_bytes-stated.auto.buf ∙ pc2.put_columns-placed.auto.text
-    ∙ pc2.put_columns-named.auto.text
+    c.put_check.auto.text ∙ c.put_bytes-stated.auto.buf ∙ c.put_columns-placed.auto.text
+    ∙ c.put_columns-named.auto.text
 
 returns : tie.Need-returns
 returns c =
     let pk = c.put_check in
     let pb = c.put_bytes-stated in
     let pc2 = c.put_columns-placed in
-    let pc = c.put_columns-named in
-    let s = c in (
+    let pc = c.put_columns-named in (
       line_written _ _ _ _ _ _ _
           c.u64_at.ensures
           refl
           c.u64_at-length.ensures
           c.is_whole.ensures pc.ensures.0 pc2.ensures.0 pb.ensures pk.ensures.0,
-      omega (arith, s.requires, s.well_formed, pc.ensures.1, pc2.ensures.1, pb.ensures.ends, pk.ensures.1),
+      omega (arith, c.requires, c.well_formed, pc.ensures.1, pc2.ensures.1, pb.ensures.ends, pk.ensures.1),
     )
 
 pub put_segment_spec : {M : Type 1} → statement M

@@ -16,42 +16,32 @@ module _ (pb : tie.After-put_bytes-headed) where
 
 put-entries-requires : tie.Need-put_entries-listed-requires
 put-entries-requires c κs =
-    let pb = c in
-    let p = pb.requires in (
-      (p.0.0, omega (arith, pb.put_bytes-headed.ensures.ends, pb.put_bytes-headed.auto.buf, at_most c.before.before.before, p.0.1)),
-      (p.1.0, m _ _ _ _ _ _ (λ k. omega (arith, pb.shared_slice_known-1.given k)) p.1.0 p.0.0 p.1.1),
+    let p = c.requires in (
+      (p.0.0, omega (arith, c.put_bytes-headed.ensures.ends, c.put_bytes-headed.auto.buf, at_most c.before.before.before, p.0.1)),
+      (p.1.0, m _ _ _ _ _ _ (λ k. omega (arith, c.shared_slice_known-1.given k)) p.1.0 p.0.0 p.1.1),
     )
 
 put-segment-requires : tie.Need-put_segment-last-requires
 put-segment-requires c κs =
-    let pe = c in
-    let pb = pe in
-    let p = pb.requires in
-    let r = list_room _ _ _ _ _ _ (λ k. omega (arith, pb.shared_slice_known-1.given k)) p.1.0 p.0.0 p.1.1 in
-    let w = pb.put_bytes-headed in
-    let x = pe.put_entries-listed in
+    let p = c.requires in
+    let r = list_room _ _ _ _ _ _ (λ k. omega (arith, c.shared_slice_known-1.given k)) p.1.0 p.0.0 p.1.1 in
+    let w = c.put_bytes-headed in
+    let x = c.put_entries-listed in
     (r.0, (omega (arith, w.ensures.ends, w.auto.buf, r.1, x.ensures.1, x.auto.text, p.0.1), omega arith))
 
 put-number-requires : tie.Need-put_number-ended-requires
 put-number-requires c κs =
-    let ps = c in
-    let pe = ps in
-    let pb = pe in
-    let w = pb.put_bytes-headed in
-    let x = pe.put_entries-listed in
-    let y = ps.put_segment-last in
-    omega (arith, w.ensures.ends, w.auto.buf, at_most c.before.before.before.before.before.before.before.before.before.before.before.before.before.before.before.before.before, x.ensures.1, x.auto.text, y.ensures.1, y.auto.text, pb.requires.0.1)
+    let w = c.put_bytes-headed in
+    let x = c.put_entries-listed in
+    let y = c.put_segment-last in
+    omega (arith, w.ensures.ends, w.auto.buf, at_most c.before.before.before.before.before.before.before.before.before.before.before.before.before.before.before.before.before, x.ensures.1, x.auto.text, y.ensures.1, y.auto.text, c.requires.0.1)
 
 put-number-requires-2 : tie.Need-put_number-requires
 put-number-requires-2 c κs =
-    let pn = c in
-    let ps = pn in
-    let pe = ps in
-    let pb = pe in
-    let w = pb.put_bytes-headed in
-    let x = pe.put_entries-listed in
-    let y = ps.put_segment-last in
-    let z = pn.put_number-ended in
+    let w = c.put_bytes-headed in
+    let x = c.put_entries-listed in
+    let y = c.put_segment-last in
+    let z = c.put_number-ended in
     omega (
       arith,
       w.ensures.ends,
@@ -63,28 +53,21 @@ put-number-requires-2 c κs =
       y.auto.text,
       z.ensures.1,
       z.auto.buf,
-      pb.requires.0.1,
+      c.requires.0.1,
     )
 
 same_length : tie.Need-shape_of-text
 same_length c =
-    let pn = c in
-    let ps = pn in
-    let pe = ps in
-    c.put_number.auto.buf ∙ pn.put_number-ended.auto.buf ∙ ps.put_segment-last.auto.text
-    ∙ pe.put_entries-listed.auto.text ∙ pe.put_bytes-headed.auto.buf
+    c.put_number.auto.buf ∙ c.put_number-ended.auto.buf ∙ c.put_segment-last.auto.text
+    ∙ c.put_entries-listed.auto.text ∙ c.put_bytes-headed.auto.buf
 
 returns : tie.Need-returns
 unfolding ascii
 returns c =
-    let pn = c in
-    let ps = pn in
-    let pe = ps in
-    let pb = pe in
-    let p = pb.requires in
-    list_written _ _ _ _ _ _ (λ k. omega (arith, pb.shared_slice_known-1.given k)) p.1.0 p.0.0 p.1.1
-    pb.put_bytes-headed.ensures pe.put_entries-listed.ensures.0 ps.put_segment-last.ensures.0
-    pn.put_number-ended.ensures.0 c.put_number.ensures.0
+    let p = c.requires in
+    list_written _ _ _ _ _ _ (λ k. omega (arith, c.shared_slice_known-1.given k)) p.1.0 p.0.0 p.1.1
+    c.put_bytes-headed.ensures c.put_entries-listed.ensures.0 c.put_segment-last.ensures.0
+    c.put_number-ended.ensures.0 c.put_number.ensures.0
 
 pub put_list_spec : {M : Type 1} → statement M
 put_list_spec =

@@ -18,9 +18,7 @@ returns c = refused_written _ 1 (list_long _ (omega arith)) c.put_number.ensures
 
 put-list-requires : tie.Need-put_list-requires
 put-list-requires c κs =
-    let f2 = c in
-    let ow = f2 in
-    ((omega arith, omega arith), (ow.file_manifest-found.ensures.1 (omega arith), manifest_at _ _ _ _ _ (sym ow.file_manifest-found.ensures.0 ∙ f2.in-At.is)))
+    ((omega arith, omega arith), (c.file_manifest-found.ensures.1 (omega arith), manifest_at _ _ _ _ _ (sym c.file_manifest-found.ensures.0 ∙ c.in-At.is)))
 
 same-length-2 : tie.Need-shape_of-text-in-Refused
 same-length-2 c = c.put_number-in-Refused.auto.buf
@@ -28,8 +26,7 @@ same-length-2 c = c.put_number-in-Refused.auto.buf
 returns-2 : tie.Need-returns-in-Refused
 unfolding ascii
 returns-2 c =
-    let f = c in
-    refused_written _ _ (list_refused _ _ (omega arith) (sym f.file_manifest-found.ensures.0 ∙ f.in-Refused.is))
+    refused_written _ _ (list_refused _ _ (omega arith) (sym c.file_manifest-found.ensures.0 ∙ c.in-Refused.is))
     c.put_number-in-Refused.ensures.0
 
 same-length-3 : tie.Need-shape_of-text-in-At

@@ -11,11 +11,9 @@ use Rattle.lookup.proofs.in_file.find.Tie as tie
 
 find-down-requires : tie.Need-find_down-requires
 find-down-requires c κs =
-    let f2 = c in
-    let ow = f2 in
-    let w = manifest_at _ _ _ _ _ (sym ow.file_manifest-found.ensures.0 ∙ f2.in-At.is) in
+    let w = manifest_at _ _ _ _ _ (sym c.file_manifest-found.ensures.0 ∙ c.in-At.is) in
     let m = opened_at _ _ _ w.0 _ _ w.1 in
-    ((omega arith, omega arith), (ow.file_manifest-found.ensures.1 m.within, m))
+    ((omega arith, omega arith), (c.file_manifest-found.ensures.1 m.within, m))
 
 returns : tie.Need-returns-in-Refused
 returns c = located_refused _ _ _ (sym c.file_manifest-found.ensures.0 ∙ c.in-Refused.is)

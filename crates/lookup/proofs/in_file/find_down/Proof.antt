@@ -29,85 +29,65 @@ loop-holds c = (search_first _ _ _ _ c.requires.1.1, search rules)
 
 add-if1 : tie.Need-overflow_add-p invariant-loop-i decreases-loop-i
 add-if1 c =
-    let b = c in
-    omega (arith, entry c.before, b.requires.1.1.within)
+    omega (arith, entry c.before, c.requires.1.1.within)
 
 shared-slice-read-if1 : tie.Need-bounds-file-p invariant-loop-i decreases-loop-i
 shared-slice-read-if1 c =
-    let b = c in
-    omega (arith, entry c.before.before, b.requires.1.1.within)
+    omega (arith, entry c.before.before, c.requires.1.1.within)
 
 loop-again : tie.Need-loop-i-preserved-then-file-p-ne-KIND invariant-loop-i decreases-loop-i
 loop-again c =
-    let b = c in
-    (search_other _ _ _ _ b.requires.1.1 _ _ _ b.loop-i.invariant.0 (omega arith) (entry c.before.before.before) c.if-file-p-ne-KIND.true, b.loop-i.invariant.1)
+    (search_other _ _ _ _ c.requires.1.1 _ _ _ c.loop-i.invariant.0 (omega arith) (entry c.before.before.before) c.if-file-p-ne-KIND.true, c.loop-i.invariant.1)
 
 add-if2 : tie.Need-overflow_add-manifest invariant-loop-i decreases-loop-i
 add-if2 c =
-    let b = c in
-    omega (arith, entry c.before.before.before, b.requires.1.1.within)
+    omega (arith, entry c.before.before.before, c.requires.1.1.within)
 
 mul-if2 : tie.Need-overflow_mul-i invariant-loop-i decreases-loop-i
 mul-if2 c =
-    let b = c in
-    omega (arith, entry c.before.before.before, b.requires.1.1.within)
+    omega (arith, entry c.before.before.before, c.requires.1.1.within)
 
 add-if2-2 : tie.Need-overflow_add-manifest-in-loop-i invariant-loop-i decreases-loop-i
 add-if2-2 c =
-    let b = c in
-    omega (arith, entry c.before.before.before, b.requires.1.1.within)
+    omega (arith, entry c.before.before.before, c.requires.1.1.within)
 
 add-if2-3 : tie.Need-overflow_add-manifest-in-loop-i-2 invariant-loop-i decreases-loop-i
 add-if2-3 c =
-    let b = c in
-    omega (arith, entry c.before.before.before, b.requires.1.1.within)
+    omega (arith, entry c.before.before.before, c.requires.1.1.within)
 
 shared-slice-read-if2 : tie.Need-bounds-file-manifest invariant-loop-i decreases-loop-i
 shared-slice-read-if2 c =
-    let b = c in
-    omega (arith, entry c.before.before.before.before, b.requires.1.1.within)
+    omega (arith, entry c.before.before.before.before, c.requires.1.1.within)
 
 loop-again-2 : tie.Need-loop-i-preserved-then-file-manifest-ne0 invariant-loop-i decreases-loop-i
 loop-again-2 c =
-    let b = c in
-    (search_retired _ _ _ _ b.requires.1.1 _ _ _ b.loop-i.invariant.0 (omega arith) (entry c.before.before.before.before.before) c.if-file-manifest-ne0.true, b.loop-i.invariant.1)
+    (search_retired _ _ _ _ c.requires.1.1 _ _ _ c.loop-i.invariant.0 (omega arith) (entry c.before.before.before.before.before) c.if-file-manifest-ne0.true, c.loop-i.invariant.1)
 
 find-requires : tie.Need-find-segment-requires invariant-loop-i decreases-loop-i
 find-requires c κs =
-    let b = c in
-    let s = b in
-    let m = s.requires.1.1 in
+    let m = c.requires.1.1 in
     let a = entry c.before.before.before.before.before.before in
-    (omega (arith, a.numbered.room, a.numbered.length_is), omega (arith, b.loop-i.invariant.1, s.requires.0.1))
+    (omega (arith, a.numbered.room, a.numbered.length_is), omega (arith, c.loop-i.invariant.1, c.requires.0.1))
 
 loop-again-3 : tie.Need-loop-i-preserved invariant-loop-i decreases-loop-i
 loop-again-3 c =
-    let l = c in
-    let e1 = l in
-    let b = e1 in
-    let m = b.requires.1.1 in
+    let m = c.requires.1.1 in
     let a = entry c.before.before.before.before.before.before.before.before.before.before in (
-      search_on _ _ _ _ m _ _ _ b.loop-i.invariant.0 (omega arith) a l.if-file-manifest-ne0.false
-          e1.if-file-p-ne-KIND.false (sym l.find-segment.ensures ∙ c.in-Nowhere.is),
-      omega (arith, b.loop-i.invariant.1),
+      search_on _ _ _ _ m _ _ _ c.loop-i.invariant.0 (omega arith) a c.if-file-manifest-ne0.false
+          c.if-file-p-ne-KIND.false (sym c.find-segment.ensures ∙ c.in-Nowhere.is),
+      omega (arith, c.loop-i.invariant.1),
     )
 
 returns : tie.Need-returns-in-Refused invariant-loop-i decreases-loop-i
 returns c =
-    let l = c in
-    let e1 = l in
-    let b = e1 in
-    search_stop _ _ _ _ b.requires.1.1 _ _ _ b.loop-i.invariant.0 (omega arith) (entry c.before.before.before.before.before.before.before.before.before.before) l.if-file-manifest-ne0.false
-    e1.if-file-p-ne-KIND.false _ (sym l.find-segment.ensures ∙ c.in-Refused.is)
+    search_stop _ _ _ _ c.requires.1.1 _ _ _ c.loop-i.invariant.0 (omega arith) (entry c.before.before.before.before.before.before.before.before.before.before) c.if-file-manifest-ne0.false
+    c.if-file-p-ne-KIND.false _ (sym c.find-segment.ensures ∙ c.in-Refused.is)
     (λ q. let z : ◌≡◌ {A = ℕ} 0 1 = cc in omega arith)
 
 returns-2 : tie.Need-returns-in-In invariant-loop-i decreases-loop-i
 returns-2 c =
-    let l = c in
-    let e1 = l in
-    let b = e1 in
-    search_stop _ _ _ _ b.requires.1.1 _ _ _ b.loop-i.invariant.0 (omega arith) (entry c.before.before.before.before.before.before.before.before.before.before) l.if-file-manifest-ne0.false
-    e1.if-file-p-ne-KIND.false _ (sym l.find-segment.ensures ∙ c.in-In.is)
+    search_stop _ _ _ _ c.requires.1.1 _ _ _ c.loop-i.invariant.0 (omega arith) (entry c.before.before.before.before.before.before.before.before.before.before) c.if-file-manifest-ne0.false
+    c.if-file-p-ne-KIND.false _ (sym c.find-segment.ensures ∙ c.in-In.is)
     (λ q. let z : ◌≡◌ {A = ℕ} 0 1 = cc in omega arith)
 
 returns-3 : tie.Need-returns invariant-loop-i decreases-loop-i

@@ -11,49 +11,38 @@ use Rattle.lookup.proofs.in_segment.find.Tie as tie
 -- Where the payload is searched: the length that was read.
 returns : tie.Need-returns-then-not-is_whole
 returns c =
-    let w = c in
-    segment_torn _ _ _ _ _ w.u64_at-length.ensures (sym c.is_whole.ensures ∙ c.if-not-is_whole.true)
+    segment_torn _ _ _ _ _ c.u64_at-length.ensures (sym c.is_whole.ensures ∙ c.if-not-is_whole.true)
 
 is-whole-by-requires : tie.Need-is_whole_by-requires
 is-whole-by-requires c κs =
-    let w = c in
-    (omega arith, sum_missing _ _ _ _ _ w.u64_at-length.ensures _ (sym w.search-searched.ensures ∙ c.in-Missing.is))
+    (omega arith, sum_missing _ _ _ _ _ c.u64_at-length.ensures _ (sym c.search-searched.ensures ∙ c.in-Missing.is))
 
 returns-2 : tie.Need-returns-then-not-is_whole_by
 returns-2 c =
-    let w = c in
-    segment_torn _ _ _ _ _ w.u64_at-length.ensures (sym c.is_whole_by.ensures ∙ c.if-not-is_whole_by.true)
+    segment_torn _ _ _ _ _ c.u64_at-length.ensures (sym c.is_whole_by.ensures ∙ c.if-not-is_whole_by.true)
 
 is-whole-by-requires-2 : tie.Need-is_whole_by-requires-in-At
 is-whole-by-requires-2 c κs =
-    let w = c in
-    (omega arith, sum_found _ _ _ _ _ w.u64_at-length.ensures _ _ _ _ _ _ (sym w.search-searched.ensures ∙ c.in-At.is))
+    (omega arith, sum_found _ _ _ _ _ c.u64_at-length.ensures _ _ _ _ _ _ (sym c.search-searched.ensures ∙ c.in-At.is))
 
 returns-3 : tie.Need-returns-then-not-is_whole_by-2
 returns-3 c =
-    let w = c in
-    segment_torn _ _ _ _ _ w.u64_at-length.ensures (sym c.is_whole_by-in-At.ensures ∙ c.if-not-is_whole_by-2.true)
+    segment_torn _ _ _ _ _ c.u64_at-length.ensures (sym c.is_whole_by-in-At.ensures ∙ c.if-not-is_whole_by-2.true)
 
 returns-4 : tie.Need-returns-else-not-is_whole
 returns-4 c =
-    let k = c in
-    let w = k in
-    segment_bad _ _ _ _ _ w.u64_at-length.ensures (sym c.is_whole.ensures ∙ c.if-not-is_whole.false) _
-    (sym w.search-searched.ensures ∙ k.in-Refused.is)
+    segment_bad _ _ _ _ _ c.u64_at-length.ensures (sym c.is_whole.ensures ∙ c.if-not-is_whole.false) _
+    (sym c.search-searched.ensures ∙ c.in-Refused.is)
 
 returns-5 : tie.Need-returns-else-not-is_whole_by
 returns-5 c =
-    let k = c in
-    let w = k in
-    segment_missing _ _ _ _ _ w.u64_at-length.ensures (sym c.is_whole_by.ensures ∙ c.if-not-is_whole_by.false) _
-    (sym w.search-searched.ensures ∙ k.in-Missing.is)
+    segment_missing _ _ _ _ _ c.u64_at-length.ensures (sym c.is_whole_by.ensures ∙ c.if-not-is_whole_by.false) _
+    (sym c.search-searched.ensures ∙ c.in-Missing.is)
 
 returns-6 : tie.Need-returns-else-not-is_whole_by-2
 returns-6 c =
-    let k = c in
-    let w = k in
-    segment_found _ _ _ _ _ w.u64_at-length.ensures (sym c.is_whole_by-in-At.ensures ∙ c.if-not-is_whole_by-2.false) _ _ _ _ _ _
-    (sym w.search-searched.ensures ∙ k.in-At.is)
+    segment_found _ _ _ _ _ c.u64_at-length.ensures (sym c.is_whole_by-in-At.ensures ∙ c.if-not-is_whole_by-2.false) _ _ _ _ _ _
+    (sym c.search-searched.ensures ∙ c.in-At.is)
 
 pub find_spec : {M : Type 1} → statement M
 find_spec =

@@ -18,11 +18,10 @@ returns-2 c = hands_outside _ _ _ _ _ c.in-At.is (omega arith) refl
 
 returns-3 : tie.Need-returns-else-length-file
 returns-3 c =
-    let p = c in
-    hands_at _ _ _ p.in-At.start p.in-At.length p.in-At.is (omega arith)
+    hands_at _ _ _ c.in-At.start c.in-At.length c.in-At.is (omega arith)
     (record {
-      bytes = ap (λ (k : ℕ). take k (drop p.in-At.start p.args.file.now))
-          (add-sub_cancel_left p.in-At.start p.in-At.length);
+      bytes = ap (λ (k : ℕ). take k (drop c.in-At.start c.args.file.now))
+          (add-sub_cancel_left c.in-At.start c.in-At.length);
       block = refl;
       place = add_comm _ _;
     })

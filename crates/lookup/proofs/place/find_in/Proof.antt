@@ -28,54 +28,45 @@ loop-holds c = find_first _ _ _
 
 add-u64-at : tie.Need-overflow_add-p invariant-loop-i decreases-loop-i
 add-u64-at c =
-    let b = c in
-    omega (arith, entry c.before, b.requires.1.1.within)
+    omega (arith, entry c.before, c.requires.1.1.within)
 
 u64-at-requires : tie.Need-u64_at-requires invariant-loop-i decreases-loop-i
 u64-at-requires c κs =
-    let b = c in
-    omega (arith, entry c.before, b.requires.1.1.within)
+    omega (arith, entry c.before, c.requires.1.1.within)
 
 add-i : tie.Need-overflow_add-i invariant-loop-i decreases-loop-i
 add-i c = omega (arith, (entry c.before.before.before).at_most)
 
 loop-again : tie.Need-loop-i-preserved-then-u64_at-id invariant-loop-i decreases-loop-i
 loop-again c =
-    let b = c in
-    find_other _ _ _ _ b.requires.1.1 _ _ b.loop-i.invariant (omega arith) (entry c.before.before.before) _ c.u64_at.ensures c.if-u64_at-id.true
+    find_other _ _ _ _ c.requires.1.1 _ _ c.loop-i.invariant (omega arith) (entry c.before.before.before) _ c.u64_at.ensures c.if-u64_at-id.true
 
 add-if2 : tie.Need-overflow_add-manifest invariant-loop-i decreases-loop-i
 add-if2 c =
-    let b = c in
-    omega (arith, entry c.before.before.before, b.requires.1.1.within)
+    omega (arith, entry c.before.before.before, c.requires.1.1.within)
 
 mul-if2 : tie.Need-overflow_mul-i invariant-loop-i decreases-loop-i
 mul-if2 c =
-    let b = c in
-    omega (arith, entry c.before.before.before, b.requires.1.1.within)
+    omega (arith, entry c.before.before.before, c.requires.1.1.within)
 
 add-if2-2 : tie.Need-overflow_add-manifest-in-loop-i invariant-loop-i decreases-loop-i
 add-if2-2 c =
-    let b = c in
-    omega (arith, entry c.before.before.before, b.requires.1.1.within)
+    omega (arith, entry c.before.before.before, c.requires.1.1.within)
 
 add-if2-3 : tie.Need-overflow_add-manifest-in-loop-i-2 invariant-loop-i decreases-loop-i
 add-if2-3 c =
-    let b = c in
-    omega (arith, entry c.before.before.before, b.requires.1.1.within)
+    omega (arith, entry c.before.before.before, c.requires.1.1.within)
 
 shared-slice-read-if2 : tie.Need-bounds-file-manifest invariant-loop-i decreases-loop-i
 shared-slice-read-if2 c =
-    let b = c in
-    omega (arith, entry c.before.before.before.before, b.requires.1.1.within)
+    omega (arith, entry c.before.before.before.before, c.requires.1.1.within)
 
 add-i-2 : tie.Need-overflow_add-i-then-file-manifest-ne0 invariant-loop-i decreases-loop-i
 add-i-2 c = omega (arith, (entry c.before.before.before.before.before).at_most)
 
 loop-again-2 : tie.Need-loop-i-preserved invariant-loop-i decreases-loop-i
 loop-again-2 c =
-    let b = c in
-    find_retired _ _ _ _ b.requires.1.1 _ _ b.loop-i.invariant (omega arith) (entry c.before.before.before.before.before) c.if-file-manifest-ne0.true
+    find_retired _ _ _ _ c.requires.1.1 _ _ c.loop-i.invariant (omega arith) (entry c.before.before.before.before.before) c.if-file-manifest-ne0.true
 
 -- The live segment with the id is found.
 add-kind-reserved : tie.Need-overflow_add-p-in-loop-i invariant-loop-i decreases-loop-i
@@ -86,50 +77,34 @@ shared-slice-read-kind-reserved c = omega (arith, entry c.before.before.before.b
 
 returns : tie.Need-returns-then-kind_reserved invariant-loop-i decreases-loop-i
 returns c =
-    let e2 = c in
-    let e1 = e2 in
-    let b = e2 in
-    find_reserved _ _ _ _ b.requires.1.1 _ _ b.loop-i.invariant (omega arith) (entry c.before.before.before.before.before.before.before.before) _ e1.u64_at.ensures e1.if-u64_at-id.false
-    e2.if-file-manifest-ne0.false (sym c.kind_reserved.ensures ∙ c.if-kind_reserved.true)
+    find_reserved _ _ _ _ c.requires.1.1 _ _ c.loop-i.invariant (omega arith) (entry c.before.before.before.before.before.before.before.before) _ c.u64_at.ensures c.if-u64_at-id.false
+    c.if-file-manifest-ne0.false (sym c.kind_reserved.ensures ∙ c.if-kind_reserved.true)
 
 add-u64-at-2 : tie.Need-overflow_add-p-in-loop-i-2 invariant-loop-i decreases-loop-i
 add-u64-at-2 c =
-    let b = c in
-    omega (arith, entry c.before.before.before.before.before.before.before.before, b.requires.1.1.within)
+    omega (arith, entry c.before.before.before.before.before.before.before.before, c.requires.1.1.within)
 
 u64-at-requires-2 : tie.Need-u64_at-length-requires invariant-loop-i decreases-loop-i
 u64-at-requires-2 c κs =
-    let b = c in
-    omega (arith, entry c.before.before.before.before.before.before.before.before, b.requires.1.1.within)
+    omega (arith, entry c.before.before.before.before.before.before.before.before, c.requires.1.1.within)
 
 is-whole-requires : tie.Need-is_whole-requires invariant-loop-i decreases-loop-i
 is-whole-requires c κs = omega (arith, (entry c.before.before.before.before.before.before.before.before.before).numbered, c.u64_at-length.ensures)
 
 returns-2 : tie.Need-returns-then-not-is_whole invariant-loop-i decreases-loop-i
 returns-2 c =
-    let ua2 = c in
-    let e3 = ua2 in
-    let e2 = e3 in
-    let e1 = e2 in
-    let b = e2 in
-    find_torn _ _ _ _ b.requires.1.1 _ _ b.loop-i.invariant (omega arith) (entry c.before.before.before.before.before.before.before.before.before.before.before) _ e1.u64_at.ensures e1.if-u64_at-id.false
-    e2.if-file-manifest-ne0.false (sym e3.kind_reserved.ensures ∙ e3.if-kind_reserved.false) _ ua2.u64_at-length.ensures
+    find_torn _ _ _ _ c.requires.1.1 _ _ c.loop-i.invariant (omega arith) (entry c.before.before.before.before.before.before.before.before.before.before.before) _ c.u64_at.ensures c.if-u64_at-id.false
+    c.if-file-manifest-ne0.false (sym c.kind_reserved.ensures ∙ c.if-kind_reserved.false) _ c.u64_at-length.ensures
     (sym c.is_whole.ensures ∙ c.if-not-is_whole.true)
 
 add-t13 : tie.Need-overflow_add-result invariant-loop-i decreases-loop-i
 add-t13 c =
-    let b = c in
-    omega (arith, entry c.before.before.before.before.before.before.before.before.before.before.before, b.requires.1.1.within)
+    omega (arith, entry c.before.before.before.before.before.before.before.before.before.before.before, c.requires.1.1.within)
 
 returns-3 : tie.Need-returns-in-loop-i invariant-loop-i decreases-loop-i
 returns-3 c =
-    let ua2 = c in
-    let e3 = ua2 in
-    let e2 = e3 in
-    let e1 = e2 in
-    let b = e2 in
-    find_whole _ _ _ _ b.requires.1.1 _ _ b.loop-i.invariant (omega arith) (entry c.before.before.before.before.before.before.before.before.before.before.before) _ e1.u64_at.ensures e1.if-u64_at-id.false
-    e2.if-file-manifest-ne0.false (sym e3.kind_reserved.ensures ∙ e3.if-kind_reserved.false) _ ua2.u64_at-length.ensures
+    find_whole _ _ _ _ c.requires.1.1 _ _ c.loop-i.invariant (omega arith) (entry c.before.before.before.before.before.before.before.before.before.before.before) _ c.u64_at.ensures c.if-u64_at-id.false
+    c.if-file-manifest-ne0.false (sym c.kind_reserved.ensures ∙ c.if-kind_reserved.false) _ c.u64_at-length.ensures
     (sym c.is_whole.ensures ∙ c.if-not-is_whole.false)
 
 returns-4 : tie.Need-returns invariant-loop-i decreases-loop-i

@@ -11,10 +11,9 @@ use Rattle.lookup.proofs.place.payload_place.Tie as tie
 
 find-in-requires : tie.Need-find_in-requires
 find-in-requires c κs =
-    let ow = c in
-    let w = manifest_at _ _ _ _ _ (sym ow.file_manifest-found.ensures.0 ∙ c.in-At.is) in
+    let w = manifest_at _ _ _ _ _ (sym c.file_manifest-found.ensures.0 ∙ c.in-At.is) in
     let m = opened_at _ _ _ w.0 _ _ w.1 in
-    (omega arith, (ow.file_manifest-found.ensures.1 m.within, m))
+    (omega arith, (c.file_manifest-found.ensures.1 m.within, m))
 
 returns : tie.Need-returns-in-Refused
 returns c = place_refused _ _ _ (sym c.file_manifest-found.ensures.0 ∙ c.in-Refused.is)

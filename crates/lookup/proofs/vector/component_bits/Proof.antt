@@ -12,13 +12,11 @@ u32-at-requires c κs = four_wide _ _ _ c.value_place-place.ensures _ _
 
 returns : tie.Need-returns-then-dtype-eq0
 returns c =
-    let p2 = c in
-    bits_float _ _ _ p2.value_place-place.ensures _ _ p2.in-At.is _ c.if-dtype-eq0.true c.u32_at.ensures
+    bits_float _ _ _ c.value_place-place.ensures _ _ c.in-At.is _ c.if-dtype-eq0.true c.u32_at.ensures
 
 shared-slice-read-t12 : tie.Need-bounds-file-at
 shared-slice-read-t12 c =
-    let p2 = c in
-    let r = value_room_at _ _ _ p2.value_place-place.ensures _ _ p2.in-At.is in
+    let r = value_room_at _ _ _ c.value_place-place.ensures _ _ c.in-At.is in
     omega (arith, r.0, r.1)
 
 cast-t13 : tie.Need-overflow_cast-result
@@ -29,8 +27,7 @@ returns-2 c = (component_not _ _ (lies_not _ _ _ c.value_place-place.ensures _ c
 
 returns-3 : tie.Need-returns-else-dtype-eq0
 returns-3 c =
-    let p2 = c in
-    bits_byte _ _ _ p2.value_place-place.ensures _ _ p2.in-At.is c.if-dtype-eq0.false
+    bits_byte _ _ _ c.value_place-place.ensures _ _ c.in-At.is c.if-dtype-eq0.false
 
 pub component_bits_spec : {M : Type 1} → statement M
 component_bits_spec =

@@ -11,8 +11,7 @@ use Rattle.lookup.proofs.vector.value_place.Tie as tie
 
 returns : tie.Need-returns-then-component-dim
 returns c =
-    let p2 = c in
-    value_past _ _ _ _ _ _ _ _ _ (sym p2.find-place.ensures ∙ p2.in-In.is) _ (omega arith)
+    value_past _ _ _ _ _ _ _ _ _ (sym c.find-place.ensures ∙ c.in-In.is) _ (omega arith)
 
 -- Where the vector is found and has the component: the component lies in the file.
 module _ (w : tie.After-width_of-width) where

@@ -9,26 +9,23 @@ use Rattle.lookup.proofs.vector.vector.Tie as tie
 
 add-end : tie.Need-overflow_add-end
 add-end c =
-    let l = c in
     omega (
       arith,
-      part_room _ _ _ _ _ _ _ _ _ (sym l.find-place.ensures ∙ c.in-In.is),
-      l.shared_slice_known-1.given 0,
+      part_room _ _ _ _ _ _ _ _ _ (sym c.find-place.ensures ∙ c.in-In.is),
+      c.shared_slice_known-1.given 0,
     )
 
 part-read-vector-end : tie.Need-slice_bounds-read_vector-end
 part-read-vector-end c =
-    let l = c in
     omega (
       arith,
-      part_room _ _ _ _ _ _ _ _ _ (sym l.find-place.ensures ∙ c.in-In.is),
-      l.shared_slice_known-1.given 0,
+      part_room _ _ _ _ _ _ _ _ _ (sym c.find-place.ensures ∙ c.in-In.is),
+      c.shared_slice_known-1.given 0,
     )
 
 read-vector-requires : tie.Need-read_vector-w-requires
 read-vector-requires c κs =
-    let p2 = c in
-    part_bounds _ _ _ _ _ _ _ _ _ (sym p2.find-place.ensures ∙ p2.in-In.is)
+    part_bounds _ _ _ _ _ _ _ _ _ (sym c.find-place.ensures ∙ c.in-In.is)
 
 returns : tie.Need-returns-in-Refused
 returns c = vector_refused _ _ _ _ (sym c.find-place.ensures ∙ c.in-Refused.is)
@@ -38,17 +35,13 @@ returns-2 c = vector_nowhere _ _ _ (sym c.find-place.ensures ∙ c.in-Nowhere.is
 
 returns-3 : tie.Need-returns-in-Refused-w
 returns-3 c =
-    let rv = c in
-    let p2 = rv in
-    vector_short _ _ _ _ _ _ _ _ _ (sym p2.find-place.ensures ∙ p2.in-In.is) _ _ _ rv.read_vector-w.ensures.1
-    (sym rv.read_vector-w.ensures.0 ∙ c.in-Refused-w.is)
+    vector_short _ _ _ _ _ _ _ _ _ (sym c.find-place.ensures ∙ c.in-In.is) _ _ _ c.read_vector-w.ensures.1
+    (sym c.read_vector-w.ensures.0 ∙ c.in-Refused-w.is)
 
 returns-4 : tie.Need-returns-in-Length
 returns-4 c =
-    let rv = c in
-    let p2 = rv in
-    vector_read _ _ _ _ _ _ _ _ _ (sym p2.find-place.ensures ∙ p2.in-In.is) _ _ _ rv.read_vector-w.ensures.1
-    (sym rv.read_vector-w.ensures.0 ∙ c.in-Length.is)
+    vector_read _ _ _ _ _ _ _ _ _ (sym c.find-place.ensures ∙ c.in-In.is) _ _ _ c.read_vector-w.ensures.1
+    (sym c.read_vector-w.ensures.0 ∙ c.in-Length.is)
 
 pub vector_spec : {M : Type 1} → statement M
 vector_spec =

@@ -52,7 +52,6 @@ returns-2 c = entry_refused _ _ _ (sym c.file_manifest-found.ensures.0 ∙ c.in-
 
 returns-3 : tie.Need-returns-else-index-count
 returns-3 c =
-    let e = c in
     entry_is _ _ _ (found c.before.before) _ _ (omega arith) (entry c.before.before (omega arith)) _ c.read_entry.ensures
 
 pub entry_spec : {M : Type 1} → statement M

@@ -8,12 +8,11 @@ use Rattle.opening.proofs.directory.read_entry.Tie as tie
 returns : tie.Need-returns
 unfolding entry_read_at
 returns c =
-    let ua4 = c in
     rw (
-      ua4.u64_at.ensures,
-      ua4.u64_at-2.ensures,
-      ua4.u64_at-3.ensures,
-      ua4.u64_at-4.ensures,
+      c.u64_at.ensures,
+      c.u64_at-2.ensures,
+      c.u64_at-3.ensures,
+      c.u64_at-4.ensures,
       c.u16_at.ensures,
     )
 

@@ -41,25 +41,17 @@ returns-7 c = head_fails _ _ 6 (sym c.is_zero-2.ensures ∙ c.if-not-is_zero-2.t
 
 returns-8 : tie.Need-returns
 returns-8 c =
-    let e7 = c in
-    let e6 = e7 in
-    let e5 = e6 in
-    let fh = e5 in
-    let e3 = fh in
-    let e2 = e3 in
-    let e1 = e2 in
-    let s = e1 in
     head_holds _ _ _
-    (sym e1.same.ensures ∙ e1.if-not-same.false)
-    e2.if-h-ne1.false
-    (sym e3.kind_held.ensures ∙ e3.if-not-kind_held.false)
-    (ap flags_held (sym fh.u16_at.ensures) ∙ sym fh.flags_held.ensures ∙ e5.if-not-flags_held.false)
-    e5.if-h-ne0.false
-    (sym e6.is_zero.ensures ∙ e6.if-not-is_zero.false)
-    (sym e7.is_zero-2.ensures ∙ e7.if-not-is_zero-2.false)
+    (sym c.same.ensures ∙ c.if-not-same.false)
+    c.if-h-ne1.false
+    (sym c.kind_held.ensures ∙ c.if-not-kind_held.false)
+    (ap flags_held (sym c.u16_at.ensures) ∙ sym c.flags_held.ensures ∙ c.if-not-flags_held.false)
+    c.if-h-ne0.false
+    (sym c.is_zero.ensures ∙ c.if-not-is_zero.false)
+    (sym c.is_zero-2.ensures ∙ c.if-not-is_zero-2.false)
     (c.follows.ensures
-    ∙ ap (λ (n : ℕ). leb (least_next n s.args.prev) c.u64_at.result) c.links_before.ensures
-    ∙ ap (leb (least_id s.args.first s.args.prev)) c.u64_at.ensures)
+    ∙ ap (λ (n : ℕ). leb (least_next n c.args.prev) c.u64_at.result) c.links_before.ensures
+    ∙ ap (leb (least_id c.args.first c.args.prev)) c.u64_at.ensures)
 
 pub header_sound_spec : {M : Type 1} → statement M
 header_sound_spec =

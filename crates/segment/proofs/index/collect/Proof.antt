@@ -23,12 +23,11 @@ returns c = collect_stop _ _ _ _ _ _ c.loop-n.invariant.0
     (sym c.link_at-step.ensures ∙ c.in-Stop.is)
 
 loop-again : tie.Need-loop-n-preserved invariant-loop-n decreases-loop-n
-loop-again c =
-    let la = c in (
-      collect_next _ _ _ _ _ _ la.loop-n.invariant.0 _ _ _ _ _
-          (sym la.link_at-step.ensures ∙ c.in-Sound.is) (omega arith) (omega arith),
-      search rules,
-    )
+loop-again c = (
+  collect_next _ _ _ _ _ _ c.loop-n.invariant.0 _ _ _ _ _
+      (sym c.link_at-step.ensures ∙ c.in-Sound.is) (omega arith) (omega arith),
+  search rules,
+)
 
 returns-2 : tie.Need-returns invariant-loop-n decreases-loop-n
 returns-2 c = collect_full _ _ _ _ _ _ c.loop-n.invariant.0 (omega arith)

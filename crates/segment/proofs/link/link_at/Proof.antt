@@ -23,35 +23,27 @@ returns-4 c = step_cut _ _ _ _ _ c.u64_at-declared.ensures (omega arith) (omega 
 
 returns-5 : tie.Need-returns-then-not-header_sound
 returns-5 c =
-    let ru = c in
-    step_unsound _ _ _ _ _ _ ru.u64_at-declared.ensures ru.round_up-padded.ensures (omega arith)
+    step_unsound _ _ _ _ _ _ c.u64_at-declared.ensures c.round_up-padded.ensures (omega arith)
     (sym c.header_sound.ensures ∙ c.if-not-header_sound.true)
 
 sub-is-zero : tie.Need-slice_bounds-is_zero-count
 sub-is-zero c =
-    let ru = c in
-    let r = round64_ge ru.u64_at-declared.result in omega (arith, ru.round_up-padded.ensures)
+    let r = round64_ge c.u64_at-declared.result in omega (arith, c.round_up-padded.ensures)
 
 part-is-zero-start : tie.Need-slice_bounds-is_zero-start
 part-is-zero-start c =
-    let ru = c in
-    let r = round64_ge ru.u64_at-declared.result in omega (arith, ru.round_up-padded.ensures)
+    let r = round64_ge c.u64_at-declared.result in omega (arith, c.round_up-padded.ensures)
 
 returns-6 : tie.Need-returns-then-not-is_zero
 returns-6 c =
-    let e5 = c in
-    let ru = e5 in
-    step_padding _ _ _ _ _ _ ru.u64_at-declared.ensures ru.round_up-padded.ensures (omega arith)
-    (sym e5.header_sound.ensures ∙ e5.if-not-header_sound.false) (sym c.is_zero.ensures ∙ c.if-not-is_zero.true)
+    step_padding _ _ _ _ _ _ c.u64_at-declared.ensures c.round_up-padded.ensures (omega arith)
+    (sym c.header_sound.ensures ∙ c.if-not-header_sound.false) (sym c.is_zero.ensures ∙ c.if-not-is_zero.true)
 
 returns-7 : tie.Need-returns
 returns-7 c =
-    let e6 = c in
-    let e5 = e6 in
-    let ru = e5 in
-    step_sound _ _ _ _ _ _ ru.u64_at-declared.ensures ru.round_up-padded.ensures (omega arith)
-    (sym e5.header_sound.ensures ∙ e5.if-not-header_sound.false)
-    (sym e6.is_zero.ensures ∙ e6.if-not-is_zero.false) _ _ c.u64_at.ensures
+    step_sound _ _ _ _ _ _ c.u64_at-declared.ensures c.round_up-padded.ensures (omega arith)
+    (sym c.header_sound.ensures ∙ c.if-not-header_sound.false)
+    (sym c.is_zero.ensures ∙ c.if-not-is_zero.false) _ _ c.u64_at.ensures
     c.u16_at.ensures
 
 pub link_at_spec : {M : Type 1} → statement M

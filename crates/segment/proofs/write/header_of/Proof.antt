@@ -12,14 +12,8 @@ put-requires c κs = simp length-set (omega arith)
 
 returns : tie.Need-returns
 returns c =
-    let p4 = c in
-    let p3 = p4 in
-    let p2 = p3 in
-    let p = p2 in
-    let cy = p in
-    let s = cy in
-    header_laid _ _ _ _ _ s.args.hash _ _ _ _ _ _ (omega (arith, s)) cy.copy.ensures p.put.ensures
-    p2.put-2.ensures p3.put-3.ensures p4.put-4.ensures c.copy-2.ensures
+    header_laid _ _ _ _ _ c.args.hash _ _ _ _ _ _ (omega (arith, c)) c.copy.ensures c.put.ensures
+    c.put-2.ensures c.put-3.ensures c.put-4.ensures c.copy-2.ensures
 
 pub header_of_spec : {M : Type 1} → statement M
 header_of_spec =

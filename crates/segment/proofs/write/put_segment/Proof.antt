@@ -11,31 +11,23 @@ use Rattle.segment.proofs.write.put_segment.Tie as tie
 
 copy-requires : tie.Need-copy-requires
 copy-requires c κs =
-    let ph = c in
-    let s = ph in
-    let r = round64_ge (length s.args.payload.now) in simp (length-take, length-drop) (omega (arith, ph.put_header.auto.buf, s.requires.0))
+    let r = round64_ge (length c.args.payload.now) in simp (length-take, length-drop) (omega (arith, c.put_header.auto.buf, c.requires.0))
 
 sub-clear : tie.Need-slice_bounds-clear-count
 sub-clear c =
-    let ru = c in
-    let r = round64_ge (length ru.args.payload.now) in omega (arith, ru.round_up.ensures)
+    let r = round64_ge (length c.args.payload.now) in omega (arith, c.round_up.ensures)
 
 part-clear-start : tie.Need-slice_bounds-clear-start
 part-clear-start c =
-    let ru = c in
-    let r = round64_ge (length ru.args.payload.now) in omega (arith, ru.round_up.ensures)
+    let r = round64_ge (length c.args.payload.now) in omega (arith, c.round_up.ensures)
 
 returns : tie.Need-returns
-returns c =
-    let c' = c in
-    let ph = c' in
-    let ru = ph in
-    let s = ru in (
-      segment_size _ _ _ _ _ _ ru.round_up.ensures,
-      padding_laid _ _ _ _ _ _ s.requires.0 _ _ _ ru.round_up.ensures
-          (payload_laid _ _ _ _ _ _ s.requires.0 _ _ _ (hash_of _ _ _ s.requires.1 ph.hash_by-hash.ensures) ph.put_header.ensures c'.copy.ensures)
-          c.clear.ensures,
-    )
+returns c = (
+  segment_size _ _ _ _ _ _ c.round_up.ensures,
+  padding_laid _ _ _ _ _ _ c.requires.0 _ _ _ c.round_up.ensures
+      (payload_laid _ _ _ _ _ _ c.requires.0 _ _ _ (hash_of _ _ _ c.requires.1 c.hash_by-hash.ensures) c.put_header.ensures c.copy.ensures)
+      c.clear.ensures,
+)
 
 pub put_segment_spec : {M : Type 1} → statement M
 put_segment_spec =

@@ -22,11 +22,10 @@ mul-columns c = omega (
 
 mul-columns-2 : tie.Need-overflow_mul-columns-2
 mul-columns-2 c =
-    let s = c in
     omega (
       arith,
-      (columns_fit s.args.count s.args.dim c.width_of.result (omega arith) (omega arith)
-          (omega (arith, c.width_of.ensures, width_most s.args.dtype))).1,
+      (columns_fit c.args.count c.args.dim c.width_of.result (omega arith) (omega arith)
+          (omega (arith, c.width_of.ensures, width_most c.args.dtype))).1,
     )
 
 returns : tie.Need-returns-then-s-columns
@@ -34,9 +33,8 @@ returns c = check_columns _ _ _ _ _ _ (columns_are _ _ _ _ c.width_of.ensures) (
 
 returns-2 : tie.Need-returns-in-Refused
 returns-2 c =
-    let d = c in
-    check_broken _ _ _ _ _ _ (columns_are _ _ _ _ d.width_of.ensures)
-    (omega arith) _ (sym d.decode-m.ensures.0 ∙ c.in-Refused.is)
+    check_broken _ _ _ _ _ _ (columns_are _ _ _ _ c.width_of.ensures)
+    (omega arith) _ (sym c.decode-m.ensures.0 ∙ c.in-Refused.is)
 
 -- Where the map is read: it lies behind the columns, in the block.
 module _ (m : tie.In-Length) where
@@ -48,9 +46,8 @@ module _ (m : tie.In-Length) where
 
 returns-3 : tie.Need-returns-then-s-end-lt4
 returns-3 c =
-    let d = c in
-    check_end _ _ _ _ _ _ (columns_are _ _ _ _ d.width_of.ensures) (omega arith)
-    _ (sym d.decode-m.ensures.0 ∙ c.in-Length.is) (omega arith)
+    check_end _ _ _ _ _ _ (columns_are _ _ _ _ c.width_of.ensures) (omega arith)
+    _ (sym c.decode-m.ensures.0 ∙ c.in-Length.is) (omega arith)
 
 u32-at-requires : tie.Need-u32_at-requires
 u32-at-requires c κs = omega (arith, fits c.before)
@@ -60,33 +57,22 @@ slice-aggregate-checksum c = sym (length-take-le _ _ (fits c.before.before))
 
 returns-4 : tie.Need-returns-then-u32_at-checksum
 returns-4 c =
-    let ua = c in
-    let m = ua in
-    let d = m in
-    check_checksum _ _ _ _ _ _ (columns_are _ _ _ _ d.width_of.ensures)
-    (omega arith) _ (sym d.decode-m.ensures.0 ∙ m.in-Length.is) (omega arith)
-    (λ e. c.if-u32_at-checksum.true (ua.u32_at.ensures ∙ e ∙ sym c.checksum.ensures))
+    check_checksum _ _ _ _ _ _ (columns_are _ _ _ _ c.width_of.ensures)
+    (omega arith) _ (sym c.decode-m.ensures.0 ∙ c.in-Length.is) (omega arith)
+    (λ e. c.if-u32_at-checksum.true (c.u32_at.ensures ∙ e ∙ sym c.checksum.ensures))
 
 returns-5 : tie.Need-returns-then-not-is_filled
 returns-5 c =
-    let e3 = c in
-    let ua = e3 in
-    let m = ua in
-    let d = m in
-    check_padding _ _ _ _ _ _ (columns_are _ _ _ _ d.width_of.ensures)
-    (omega arith) _ (sym d.decode-m.ensures.0 ∙ m.in-Length.is) (omega arith)
-    (sym ua.u32_at.ensures ∙ e3.if-u32_at-checksum.false ∙ e3.checksum.ensures) (sym c.is_filled.ensures ∙ c.if-not-is_filled.true)
+    check_padding _ _ _ _ _ _ (columns_are _ _ _ _ c.width_of.ensures)
+    (omega arith) _ (sym c.decode-m.ensures.0 ∙ c.in-Length.is) (omega arith)
+    (sym c.u32_at.ensures ∙ c.if-u32_at-checksum.false ∙ c.checksum.ensures) (sym c.is_filled.ensures ∙ c.if-not-is_filled.true)
 
 returns-6 : tie.Need-returns
 returns-6 c =
-    let e3 = c in
-    let ua = e3 in
-    let m = ua in
-    let d = m in
-    check_sound _ _ _ _ _ _ (columns_are _ _ _ _ d.width_of.ensures)
-    (omega arith) _ (sym d.decode-m.ensures.0 ∙ m.in-Length.is) (omega arith)
-    (sym ua.u32_at.ensures ∙ e3.if-u32_at-checksum.false ∙ e3.checksum.ensures)
-    (sym c.is_filled.ensures ∙ c.if-not-is_filled.false) d.decode-m.ensures.1
+    check_sound _ _ _ _ _ _ (columns_are _ _ _ _ c.width_of.ensures)
+    (omega arith) _ (sym c.decode-m.ensures.0 ∙ c.in-Length.is) (omega arith)
+    (sym c.u32_at.ensures ∙ c.if-u32_at-checksum.false ∙ c.checksum.ensures)
+    (sym c.is_filled.ensures ∙ c.if-not-is_filled.false) c.decode-m.ensures.1
 
 pub check_block_spec : {M : Type 1} → statement M
 check_block_spec =

@@ -19,9 +19,8 @@ part-is-zero-start c = omega (arith, round64_ge c.args.at)
 
 returns-2 : tie.Need-returns
 returns-2 c =
-    let ru = c in
-    (rw ru.round_up-end.ensures at c.is_zero.ensures) ∙ filled_there ru.args.at
-    ru.args.s.now (omega arith)
+    (rw c.round_up-end.ensures at c.is_zero.ensures) ∙ filled_there c.args.at
+    c.args.s.now (omega arith)
 
 pub is_filled_spec : {M : Type 1} → statement M
 is_filled_spec =

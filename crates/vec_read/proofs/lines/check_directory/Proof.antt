@@ -23,22 +23,19 @@ returns-3 c = directory_cut _ (omega arith) _ c.u32_at-blocks.ensures (omega ari
 returns-4 : tie.Need-returns-then-bad-ne0
 unfolding block_count
 returns-4 c =
-    let cl = c in
-    directory_lines _ (omega arith) _ cl.u32_at-blocks.ensures (omega arith) (omega arith) _ cl.check_lines-bad.ensures c.if-bad-ne0.true
+    directory_lines _ (omega arith) _ c.u32_at-blocks.ensures (omega arith) (omega arith) _ c.check_lines-bad.ensures c.if-bad-ne0.true
 
 returns-5 : tie.Need-returns-then-not-is_filled
 unfolding block_count
 returns-5 c =
-    let e4 = c in
-    directory_fill _ (omega arith) _ e4.u32_at-blocks.ensures (omega arith) (omega arith)
-    (sym e4.check_lines-bad.ensures ∙ e4.if-bad-ne0.false) (sym c.is_filled.ensures ∙ c.if-not-is_filled.true)
+    directory_fill _ (omega arith) _ c.u32_at-blocks.ensures (omega arith) (omega arith)
+    (sym c.check_lines-bad.ensures ∙ c.if-bad-ne0.false) (sym c.is_filled.ensures ∙ c.if-not-is_filled.true)
 
 returns-6 : tie.Need-returns
 unfolding block_count
 returns-6 c =
-    let e4 = c in
-    directory_good _ (omega arith) _ e4.u32_at-blocks.ensures (omega arith) (omega arith)
-    (sym e4.check_lines-bad.ensures ∙ e4.if-bad-ne0.false) (sym c.is_filled.ensures ∙ c.if-not-is_filled.false)
+    directory_good _ (omega arith) _ c.u32_at-blocks.ensures (omega arith) (omega arith)
+    (sym c.check_lines-bad.ensures ∙ c.if-bad-ne0.false) (sym c.is_filled.ensures ∙ c.if-not-is_filled.false)
 
 pub check_directory_spec : {M : Type 1} → statement M
 check_directory_spec =

@@ -11,38 +11,32 @@ use Rattle.vec_read.proofs.lines.check_line.Tie as tie
 
 returns : tie.Need-returns-then-count-lt1
 returns c =
-    let s = c in
-    let l = line_is s.args.s.now s.args.at in line_count_none _ (omega (arith, l.count))
+    let l = line_is c.args.s.now c.args.at in line_count_none _ (omega (arith, l.count))
 
 returns-2 : tie.Need-returns-then-count-gt-MAX_VECTORS
 returns-2 c =
-    let s = c in
-    let l = line_is s.args.s.now s.args.at in line_count_over _ (omega (arith, l.count))
+    let l = line_is c.args.s.now c.args.at in line_count_over _ (omega (arith, l.count))
 
 returns-3 : tie.Need-returns-then-dim-lt1
 returns-3 c =
-    let s = c in
-    let l = line_is s.args.s.now s.args.at in line_dim_none _ (omega (arith, l.count)) (omega (arith, l.count)) (omega (arith, l.dim))
+    let l = line_is c.args.s.now c.args.at in line_dim_none _ (omega (arith, l.count)) (omega (arith, l.count)) (omega (arith, l.dim))
 
 returns-4 : tie.Need-returns-then-dim-gt-MAX_DIM
 returns-4 c =
-    let s = c in
-    let l = line_is s.args.s.now s.args.at in line_dim_over _ (omega (arith, l.count)) (omega (arith, l.count)) (omega (arith, l.dim))
+    let l = line_is c.args.s.now c.args.at in line_dim_over _ (omega (arith, l.count)) (omega (arith, l.count)) (omega (arith, l.dim))
 
 cast-width-of : tie.Need-overflow_cast-s
 cast-width-of c = omega (arith, c.shared_slice_known-2-1.given (c.args.at + 10))
 
 returns-5 : tie.Need-returns-then-width_of-eq0
 returns-5 c =
-    let s = c in
-    let l = line_is s.args.s.now s.args.at in
+    let l = line_is c.args.s.now c.args.at in
     line_dtype _ (omega (arith, l.count)) (omega (arith, l.count)) (omega (arith, l.dim))
     (omega (arith, l.dim)) (ap width l.dtype ∙ sym c.width_of.ensures ∙ c.if-width_of-eq0.true)
 
 returns-6 : tie.Need-returns
 returns-6 c =
-    let s = c in
-    let l = line_is s.args.s.now s.args.at in
+    let l = line_is c.args.s.now c.args.at in
     let w = ap width l.dtype ∙ sym c.width_of.ensures in
     line_good _ (omega (arith, l.count)) (omega (arith, l.count)) (omega (arith, l.dim)) (omega (arith, l.dim)) (omega (arith, w))
 

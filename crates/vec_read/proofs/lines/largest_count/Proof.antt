@@ -25,8 +25,7 @@ loop-holds c = (counts_none _ _, (c.u32_at-blocks.ensures, omega (arith, c.u32_a
 
 loop-again : tie.Need-loop-i-preserved invariant-loop-i decreases-loop-i
 loop-again c =
-    let l = c in
-    (counts_next _ _ _ l.loop-i.invariant.0 _ _ c.u32_at-count.ensures c.larger-largest.ensures, l.loop-i.invariant.1)
+    (counts_next _ _ _ c.loop-i.invariant.0 _ _ c.u32_at-count.ensures c.larger-largest.ensures, c.loop-i.invariant.1)
 
 returns : tie.Need-returns invariant-loop-i decreases-loop-i
 returns c = counts_last _ _ _ _ c.loop-i.invariant.0 (omega (arith, c.loop-i.invariant.1.0))

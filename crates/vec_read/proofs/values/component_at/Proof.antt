@@ -16,19 +16,16 @@ u32-at-requires c κs = rw c.if-dtype-eq0.true at c.requires.1
 
 returns : tie.Need-returns-then-dtype-eq0
 returns c =
-    let s = c in
-    ap Float c.float_of.ensures ∙ component_float s.args.s.now s.args.at _ _ c.if-dtype-eq0.true c.u32_at.ensures
+    ap Float c.float_of.ensures ∙ component_float c.args.s.now c.args.at _ _ c.if-dtype-eq0.true c.u32_at.ensures
 
 returns-2 : tie.Need-returns-then-dtype-eq3
 returns-2 c =
-    let s = c in
     let e : to_z w8 (of_z w8 c.signed_of.result) ≡ c.signed_of.result = search rules in
-    ap Signed (e ∙ c.signed_of.ensures) ∙ component_signed s.args.s.now s.args.at _ c.if-dtype-eq3.true
+    ap Signed (e ∙ c.signed_of.ensures) ∙ component_signed c.args.s.now c.args.at _ c.if-dtype-eq3.true
 
 returns-3 : tie.Need-returns
 returns-3 c =
-    let s = c in
-    component_unsigned s.args.s.now s.args.at _ c.if-dtype-eq0.false c.if-dtype-eq3.false s.requires.0
+    component_unsigned c.args.s.now c.args.at _ c.if-dtype-eq0.false c.if-dtype-eq3.false c.requires.0
 
 pub component_at_spec : {M : Type 1} → statement M
 component_at_spec =

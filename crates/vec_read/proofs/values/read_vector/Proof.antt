@@ -36,16 +36,14 @@ mul-n c = omega (arith, all_room _ _ _ _ _ _ (bounds c))
 
 returns : tie.Need-returns-then-buf-n invariant-loop-d decreases-loop-d
 returns c =
-    let s = c in
-    let n = vector_length s.args.s.now s.args.offset s.args.count s.args.dim s.args.dtype s.args.index s.requires in
-    write_short _ _ 0 refl (omega (arith, n, ap (λ w. s.args.dim * w) c.width_of-w.ensures))
+    let n = vector_length c.args.s.now c.args.offset c.args.count c.args.dim c.args.dtype c.args.index c.requires in
+    write_short _ _ 0 refl (omega (arith, n, ap (λ w. c.args.dim * w) c.width_of-w.ensures))
 
 loop-holds : tie.Need-loop-d-init invariant-loop-d decreases-loop-d
 loop-holds c = vector_first _ _ _ _ _ _ c.requires _
 
 add-from : tie.Need-overflow_add-from invariant-loop-d decreases-loop-d
 add-from c =
-    let wo = c in
     omega (arith, (room c).row, (bounds c.before.before.before).most, (bounds c.before.before.before).index_in)
 
 mul-to : tie.Need-overflow_mul-to invariant-loop-d decreases-loop-d
@@ -68,13 +66,12 @@ part-copy-end-2 c = omega (arith, (room c.before).from)
 
 copy-requires : tie.Need-copy-requires invariant-loop-d decreases-loop-d
 copy-requires c κs =
-    let l' = c in
-    let buf = l'.loop-d.buf in
-    let d = l'.loop-d.d in
-    let same_length = l'.loop-d.invariant.same_length in
+    let buf = c.loop-d.buf in
+    let d = c.loop-d.d in
+    let same_length = c.loop-d.invariant.same_length in
     let r = room c.before.before in
-    let a = l'.args in
-    let w = l'.width_of-w.result in
+    let a = c.args in
+    let w = c.width_of-w.result in
     let from = a.offset + (d * a.count + a.index) * w in
     let l = length-take-le (from + w - from) (drop from a.s.now) (omega (arith, length-drop from a.s.now, r.from)) in
     let m = length-take-le (length buf - d * w) (drop (d * w) buf) (omega (arith, length-drop (d * w) buf)) in
@@ -82,23 +79,19 @@ copy-requires c κs =
 
 loop-again : tie.Need-loop-d-preserved invariant-loop-d decreases-loop-d
 loop-again c =
-    let l = c in
-    let s = l in
-    let e = l.width_of-w.ensures in
+    let e = c.width_of-w.ensures in
     rw e
-    (vector_next _ _ _ _ _ _ s.requires _ _ _ _ l.loop-d.invariant (omega arith)
-    (omega (arith, ap (λ w. s.args.dim * w) e)) (rw e at c.copy.ensures))
+    (vector_next _ _ _ _ _ _ c.requires _ _ _ _ c.loop-d.invariant (omega arith)
+    (omega (arith, ap (λ w. c.args.dim * w) e)) (rw e at c.copy.ensures))
 
 same_length : tie.Need-shape_of-buf invariant-loop-d decreases-loop-d
 same_length c = c.loop-d.invariant.same_length
 
 returns-2 : tie.Need-returns invariant-loop-d decreases-loop-d
 returns-2 c =
-    let wo = c in
-    let s = wo in
-    let n = vector_length s.args.s.now s.args.offset s.args.count s.args.dim s.args.dtype s.args.index s.requires in
-    let e = ap (λ w. s.args.dim * w) wo.width_of-w.ensures in
-    write_done _ _ 0 _ _ refl (omega arith) (omega arith) (vector_last _ _ _ _ _ _ s.requires _ _ _ c.loop-d.invariant (omega arith))
+    let n = vector_length c.args.s.now c.args.offset c.args.count c.args.dim c.args.dtype c.args.index c.requires in
+    let e = ap (λ w. c.args.dim * w) c.width_of-w.ensures in
+    write_done _ _ 0 _ _ refl (omega arith) (omega arith) (vector_last _ _ _ _ _ _ c.requires _ _ _ c.loop-d.invariant (omega arith))
 
 pub read_vector_spec : {M : Type 1} → statement M
 read_vector_spec =

@@ -13,8 +13,7 @@ returns c = walked_bad true true _ _ _ (c.check_directory-bad.ensures.bad c.if-b
 
 walk-blocks-requires : tie.Need-walk_blocks-requires
 walk-blocks-requires c κs =
-    let e = c in
-    let g = e.check_directory-bad.ensures.good e.if-bad-ne0.false in (g, counts_more _ _ _ _ (counts_good _ g) (search rules))
+    let g = c.check_directory-bad.ensures.good c.if-bad-ne0.false in (g, counts_more _ _ _ _ (counts_good _ g) (search rules))
 
 returns-2 : tie.Need-returns
 returns-2 c = c.walk_blocks.ensures ∙ searched_walk _ _

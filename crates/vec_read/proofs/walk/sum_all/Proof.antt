@@ -12,8 +12,7 @@ returns c = sum_not _ _ (c.if-not-summed.true)
 
 returns-2 : tie.Need-returns
 returns-2 c =
-    let e = c in
-    sum_last _ _ _ _ _ e.requires (e.if-not-summed.false) refl _ c.extend.ensures
+    sum_last _ _ _ _ _ c.requires (c.if-not-summed.false) refl _ c.extend.ensures
 
 pub sum_all_spec : {M : Type 1} → statement M
 sum_all_spec = tie.close (tie.spec

@@ -8,10 +8,8 @@ use Rattle.vec_read.proofs.walk.sum_on.Tie as tie
 
 returns-3 : tie.Need-returns
 returns-3 c =
-    let x = c in
-    let e1 = x in
-    let p = e1.requires in
-    sum_joined _ _ _ _ _ p.0 (e1.if-not-summed.false) _ _ _ p.1.begins x.extend-before.ensures c.extend_by.ensures
+    let p = c.requires in
+    sum_joined _ _ _ _ _ p.0 (c.if-not-summed.false) _ _ _ p.1.begins c.extend-before.ensures c.extend_by.ensures
 
 pub sum_on_spec : {M : Type 1} → statement M
 sum_on_spec =

@@ -13,14 +13,13 @@ largest-count-requires : tie.Need-largest_count-requires
 largest-count-requires c κs = c.check_directory-bad.ensures.good c.if-bad-ne0.false
 
 walk-few-requires : tie.Need-walk_few-requires
-walk-few-requires c κs =
-    let e = c in (
-      e.check_directory-bad.ensures.good e.if-bad-ne0.false,
-      counts_more _ _ _ _ c.largest_count.ensures c.if-largest_count-le-FEW.true,
-    )
+walk-few-requires c κs = (
+  c.check_directory-bad.ensures.good c.if-bad-ne0.false,
+  counts_more _ _ _ _ c.largest_count.ensures c.if-largest_count-le-FEW.true,
+)
 
 walk-many-requires : tie.Need-walk_many-requires
-walk-many-requires c κs = let e = c in e.check_directory-bad.ensures.good e.if-bad-ne0.false
+walk-many-requires c κs = c.check_directory-bad.ensures.good c.if-bad-ne0.false
 
 pub walk_spec : {M : Type 1} → statement M
 walk_spec =

@@ -32,8 +32,7 @@ more b = omega (arith, b.loop-i.invariant.1.0, b.loop-i-test.true)
 
 lines : (b : tie.In-loop-i invariant-loop-i decreases-loop-i) → 4 + 12 * b.loop-i.i + 12 ≤ length b.args.s.now
 lines b =
-    let l = b in
-    turn_room _ l.requires.0 _ _ _ _ _ _ _ _ l.loop-i.invariant.0 (more b)
+    turn_room _ b.requires.0 _ _ _ _ _ _ _ _ b.loop-i.invariant.0 (more b)
 
 -- it begins in the payload
 at_in : (k : tie.After-shared_slice_known-in-loop-i-1 invariant-loop-i decreases-loop-i)
@@ -50,12 +49,11 @@ inside : (k : tie.In-Sound invariant-loop-i decreases-loop-i)
     → (k.loop-i.at + round64 (k.in-Sound.n + 4) ≤ length k.args.s.now)
     × ((k.in-Sound.n + 4 ≤ round64 (k.in-Sound.n + 4))
     × (length k.args.s.now + 64 ≤ 2 ^ 64))
-inside k =
-    let cb = k in (
-      turn_inside _ cb.requires.0 _ _ _ _ _ _ _ _ cb.loop-i.invariant.0 (more k.before.before.before.before.before.before.before.before.before.before.before) (sym cb.u32_at.ensures ∙ cb.if-u32_at-at.false) _ _ _
-          cb.u32_at-count.ensures cb.u16_at-dim.ensures refl _ _ cb.check_block-b.ensures k.in-Sound.n k.in-Sound.is,
-      (round64_ge (k.in-Sound.n + 4), small k.before.before.before.before.before.before.before.before.before.before.before.before.before.before.before.before),
-    )
+inside k = (
+  turn_inside _ k.requires.0 _ _ _ _ _ _ _ _ k.loop-i.invariant.0 (more k.before.before.before.before.before.before.before.before.before.before.before) (sym k.u32_at.ensures ∙ k.if-u32_at-at.false) _ _ _
+      k.u32_at-count.ensures k.u16_at-dim.ensures refl _ _ k.check_block-b.ensures k.in-Sound.n k.in-Sound.is,
+  (round64_ge (k.in-Sound.n + 4), small k.before.before.before.before.before.before.before.before.before.before.before.before.before.before.before.before),
+)
 
 round-up-requires : tie.Need-round_up-at-requires invariant-loop-i decreases-loop-i
 unfolding block_count
@@ -70,75 +68,58 @@ loop-holds c = (
 
 returns : tie.Need-returns-then-u32_at-at invariant-loop-i decreases-loop-i
 returns c =
-    let l = c in
-    turn_offset _ l.requires.0 _ _ _ _ _ _ _ _ l.loop-i.invariant.0 (omega arith) (λ e. c.if-u32_at-at.true (c.u32_at.ensures ∙ e))
+    turn_offset _ c.requires.0 _ _ _ _ _ _ _ _ c.loop-i.invariant.0 (omega arith) (λ e. c.if-u32_at-at.true (c.u32_at.ensures ∙ e))
 
 check-block-requires : tie.Need-check_block-b-requires invariant-loop-i decreases-loop-i
 check-block-requires c κs =
-    let u = c in
-    let e = u in
-    let l = e in
-    let b = turn_bounds _ l.requires.0 _ _ _ _ _ _ _ _ l.loop-i.invariant.0 (omega arith) (sym e.u32_at.ensures ∙ e.if-u32_at-at.false) _ _ _
-    u.u32_at-count.ensures u.u16_at-dim.ensures refl in
-    let fits = count_fits _ _ _ l.requires.1 _ (more c.before.before.before.before.before.before.before) _ u.u32_at-count.ensures in
-    (b.0, (b.1, (omega (arith, fits, l.loop-i.invariant.1.1), b.2)))
+    let b = turn_bounds _ c.requires.0 _ _ _ _ _ _ _ _ c.loop-i.invariant.0 (omega arith) (sym c.u32_at.ensures ∙ c.if-u32_at-at.false) _ _ _
+    c.u32_at-count.ensures c.u16_at-dim.ensures refl in
+    let fits = count_fits _ _ _ c.requires.1 _ (more c.before.before.before.before.before.before.before) _ c.u32_at-count.ensures in
+    (b.0, (b.1, (omega (arith, fits, c.loop-i.invariant.1.1), b.2)))
 
 returns-2 : tie.Need-returns-in-Refused invariant-loop-i decreases-loop-i
 returns-2 c =
-    let cb = c in
-    turn_bad _ cb.requires.0 _ _ _ _ _ _ _ _ cb.loop-i.invariant.0 (more c.before.before.before.before.before.before.before.before.before.before.before) (sym cb.u32_at.ensures ∙ cb.if-u32_at-at.false) _ _ _
-    cb.u32_at-count.ensures cb.u16_at-dim.ensures refl _ _ cb.check_block-b.ensures _ c.in-Refused.is
+    turn_bad _ c.requires.0 _ _ _ _ _ _ _ _ c.loop-i.invariant.0 (more c.before.before.before.before.before.before.before.before.before.before.before) (sym c.u32_at.ensures ∙ c.if-u32_at-at.false) _ _ _
+    c.u32_at-count.ensures c.u16_at-dim.ensures refl _ _ c.check_block-b.ensures _ c.in-Refused.is
 
 sum-on-requires : tie.Need-sum_on-sum-requires invariant-loop-i decreases-loop-i
-sum-on-requires c κs =
-    let cb = c in (
-      cb.loop-i.invariant.0.sum,
-      turn_holds _ cb.requires.0 _ _ _ _ _ _ _ _ cb.loop-i.invariant.0 (more c.before.before.before.before.before.before.before.before.before.before.before) (sym cb.u32_at.ensures ∙ cb.if-u32_at-at.false) _ _ _
-          cb.u32_at-count.ensures cb.u16_at-dim.ensures refl _ _ cb.check_block-b.ensures _ c.in-Sound.is,
-    )
+sum-on-requires c κs = (
+  c.loop-i.invariant.0.sum,
+  turn_holds _ c.requires.0 _ _ _ _ _ _ _ _ c.loop-i.invariant.0 (more c.before.before.before.before.before.before.before.before.before.before.before) (sym c.u32_at.ensures ∙ c.if-u32_at-at.false) _ _ _
+      c.u32_at-count.ensures c.u16_at-dim.ensures refl _ _ c.check_block-b.ensures _ c.in-Sound.is,
+)
 
 look-requires : tie.Need-look-place-requires invariant-loop-i decreases-loop-i
 look-requires c κs =
-    let cb = c in
-    omega (arith, fits c.before.before.before.before, cb.check_block-b.auto.scratch, cb.loop-i.invariant.1.1)
+    omega (arith, fits c.before.before.before.before, c.check_block-b.auto.scratch, c.loop-i.invariant.1.1)
 
 loop-again : tie.Need-loop-i-preserved invariant-loop-i decreases-loop-i
-loop-again c =
-    let lk = c in
-    let so = lk in
-    let k = so in
-    let cb = k in (
-      turn_next _ cb.requires.0 _ _ _ _ _ _ _ _ cb.loop-i.invariant.0 (more c.before.before.before.before.before.before.before.before.before.before.before.before.before.before.before) (sym cb.u32_at.ensures ∙ cb.if-u32_at-at.false) _ _ _
-          cb.u32_at-count.ensures cb.u16_at-dim.ensures refl _ _ cb.check_block-b.ensures _ k.in-Sound.is _ _ _ _
-          c.round_up-at-in-Sound.ensures so.sum_on-sum.ensures
-          (elim c.match-place.branch [
-            in-Place w ↦ w.kept-is ∙ looked_here _ _ _ _ _ _ _ (sym lk.look-place.ensures ∙ w.in-Place.is)
-          | in_default w ↦ w.kept-is ∙ looked_past _ _ _ _ _ _ (sym lk.look-place.ensures ∙ w.in_default.is)
-          ]),
-      (cb.loop-i.invariant.1.0, cb.check_block-b.auto.scratch ∙ cb.loop-i.invariant.1.1),
-    )
+loop-again c = (
+  turn_next _ c.requires.0 _ _ _ _ _ _ _ _ c.loop-i.invariant.0 (more c.before.before.before.before.before.before.before.before.before.before.before.before.before.before.before) (sym c.u32_at.ensures ∙ c.if-u32_at-at.false) _ _ _
+      c.u32_at-count.ensures c.u16_at-dim.ensures refl _ _ c.check_block-b.ensures _ c.in-Sound.is _ _ _ _
+      c.round_up-at-in-Sound.ensures c.sum_on-sum.ensures
+      (elim c.match-place.branch [
+        | in-Place w ↦ w.kept-is ∙ looked_here _ _ _ _ _ _ _ (sym c.look-place.ensures ∙ w.in-Place.is)
+        | in_default w ↦ w.kept-is ∙ looked_past _ _ _ _ _ _ (sym c.look-place.ensures ∙ w.in_default.is)
+      ]),
+  (c.loop-i.invariant.1.0, c.check_block-b.auto.scratch ∙ c.loop-i.invariant.1.1),
+)
 
 returns-3 : tie.Need-returns-then-s-at invariant-loop-i decreases-loop-i
 returns-3 c =
-    let l = c in
-    walk_more _ l.requires.0 _ _ _ _ _ _ _ _ l.loop-i.invariant.0 (omega arith) c.if-s-at.true
+    walk_more _ c.requires.0 _ _ _ _ _ _ _ _ c.loop-i.invariant.0 (omega arith) c.if-s-at.true
 
 sum-all-requires : tie.Need-sum_all-all-requires invariant-loop-i decreases-loop-i
 sum-all-requires c κs =
-    let l = c in
-    walk_sum _ l.requires.0 _ _ _ _ _ _ _ _ l.loop-i.invariant.0 (omega arith) c.if-s-at.false
+    walk_sum _ c.requires.0 _ _ _ _ _ _ _ _ c.loop-i.invariant.0 (omega arith) c.if-s-at.false
 
 returns-4 : tie.Need-returns-in-Nowhere invariant-loop-i decreases-loop-i
 returns-4 c =
-    let sa = c in
-    let l = sa in
-    walk_missing _ l.requires.0 _ _ _ _ _ _ _ _ l.loop-i.invariant.0 (omega arith) sa.if-s-at.false _ sa.sum_all-all.ensures c.in-Nowhere.is
+    walk_missing _ c.requires.0 _ _ _ _ _ _ _ _ c.loop-i.invariant.0 (omega arith) c.if-s-at.false _ c.sum_all-all.ensures c.in-Nowhere.is
 
 returns-5 : tie.Need-returns-in-At invariant-loop-i decreases-loop-i
 returns-5 c =
-    let sa = c in
-    let l = sa in
-    walk_found _ l.requires.0 _ _ _ _ _ _ _ _ l.loop-i.invariant.0 (omega arith) sa.if-s-at.false _ sa.sum_all-all.ensures _ _ _ _ _ c.in-At.is
+    walk_found _ c.requires.0 _ _ _ _ _ _ _ _ c.loop-i.invariant.0 (omega arith) c.if-s-at.false _ c.sum_all-all.ensures _ _ _ _ _ c.in-At.is
 
 pub walk_blocks_spec : {M : Type 1} → statement M
 walk_blocks_spec =

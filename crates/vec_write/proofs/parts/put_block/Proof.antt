@@ -36,8 +36,7 @@ part-put-start c = omega (arith, room c.before.before)
 
 put-requires : tie.Need-put-requires
 put-requires c κs =
-    let o = c in
-    (o.requires.0, omega (arith, room c.before.before.before))
+    (c.requires.0, omega (arith, room c.before.before.before))
 
 slice-reshare-prefix-checksum : tie.Need-slice_bounds-checksum-end
 slice-reshare-prefix-checksum c = omega (arith, room c.before.before.before.before.before.before)
@@ -50,23 +49,15 @@ put-requires-2 c κs = omega (arith, room c.before.before.before.before.before.b
 
 clear-part-requires : tie.Need-clear_part-requires
 clear-part-requires c κs =
-    let w = c in
-    let o = w in
-    let g = round64_ge (o.args.end + 4) in
-    (omega (arith, o.round_up-filled.ensures), omega (arith, o.round_up-filled.ensures, o.requires.1.1, o.copy.auto.buf, w.put-2.auto.s))
+    let g = round64_ge (c.args.end + 4) in
+    (omega (arith, c.round_up-filled.ensures), omega (arith, c.round_up-filled.ensures, c.requires.1.1, c.copy.auto.buf, c.put-2.auto.s))
 
 returns : tie.Need-returns
 returns c =
-    let z = c in
-    let w = z in
-    let k = w in
-    let m = k in
-    let o = m in
-    let s = o in
-    block_laid s.args.buf.now _ _ _ _ _ s.requires.1.0 s.requires.1.1
-    (map_laid s.args.buf.now o.copy.new.buf m.put.new.buf _ _ _ s.requires.1.0 s.requires.1.1
-    o.copy.ensures m.put.ensures) k.checksum-crc.ensures _ _
-    w.put-2.ensures (padded _ _ _ _ o.round_up-filled.ensures z.clear_part.ensures)
+    block_laid c.args.buf.now _ _ _ _ _ c.requires.1.0 c.requires.1.1
+    (map_laid c.args.buf.now c.copy.new.buf c.put.new.buf _ _ _ c.requires.1.0 c.requires.1.1
+    c.copy.ensures c.put.ensures) c.checksum-crc.ensures _ _
+    c.put-2.ensures (padded _ _ _ _ c.round_up-filled.ensures c.clear_part.ensures)
 
 pub put_block_spec : {M : Type 1} → statement M
 put_block_spec =

@@ -14,16 +14,9 @@ clear-part-requires c κs = (omega arith, omega arith)
 returns : tie.Need-returns
 unfolding round64
 returns c =
-    let p6 = c in
-    let p5 = p6 in
-    let p4 = p5 in
-    let p3 = p4 in
-    let p2 = p3 in
-    let p1 = p2 in
-    let s = p1 in
-    directory_laid s.args.buf.now _ _ _ _ _ _ _ _ _ _ _ s.requires.0 s.requires.1.0 s.requires.1.1
-    p1.put.ensures p2.put-2.ensures p3.put-3.ensures
-    p4.put-4.ensures p5.put-5.ensures p6.put-6.ensures (padded _ _ 16 64 refl c.clear_part.ensures)
+    directory_laid c.args.buf.now _ _ _ _ _ _ _ _ _ _ _ c.requires.0 c.requires.1.0 c.requires.1.1
+    c.put.ensures c.put-2.ensures c.put-3.ensures
+    c.put-4.ensures c.put-5.ensures c.put-6.ensures (padded _ _ 16 64 refl c.clear_part.ensures)
 
 pub put_directory_spec : {M : Type 1} → statement M
 put_directory_spec =
