@@ -9,7 +9,6 @@ use mathlib.Core.Path.{◌≡◌, refl, sym, ap, ◌∙◌}
 use native.Mathlib.Omega.{arith}
 use lib.ListN.{take, length-take}
 use lib.Seq.{length-take-le}
-use borrow.Author.Tests.{not-true, not-false}
 use Rattle.octets.proofs.le.Laws.{bytes_take}
 use Rattle.manifest.specs.Opening.{opened}
 use Rattle.append.proofs.AppendLaws.{way_room, way_limit, way_none, way_batch, taken_held, way_retire, way_done}

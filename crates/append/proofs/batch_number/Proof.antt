@@ -2,7 +2,6 @@
 -- Assumes nothing.
 use mathlib.Core.Path.{sym, ◌∙◌}
 use native.Mathlib.Omega.{arith}
-use borrow.Author.Tests.{not-true, not-false}
 use Rattle.append.proofs.commit.Answer.{number_form, number_vectors}
 use borrow.Author.Rules.{rules}
 use Rattle.append.proofs.batch_number.Statement.{statement}

@@ -1,7 +1,7 @@
 -- Entries made of the old file's headers become those of the copied segments by their places alone: a copied segment's header is the old one. And where
 -- the loop stands that writes the places.
 -- Assumes nothing.
-use Rattle.std.specs.Prelude.{ℕ, zero, suc, ◌+◌, ◌*◌, ◌≤◌, ◌<◌, ◌≡◌, refl, List, [], ◌∷◌, ◌++◌, length, take, drop, get_or}
+use Rattle.std.specs.Prelude.{ℕ, suc, ◌+◌, ◌*◌, ◌≤◌, ◌<◌, ◌≡◌, refl, List, [], ◌∷◌, ◌++◌, length, take, drop, get_or}
 use Rattle.std.proofs.Math.Path.{sym, ap}
 use Rattle.std.proofs.Common.{ap₂, subst, ◌∙◌, append_assoc, arith, add-one, length-append, drop_of_length-le, drop-cons, drop-drop}
 use Rattle.std.proofs.Math.ListN.{length-drop, get_or-append}
@@ -16,7 +16,7 @@ use Rattle.segment.specs.Header.{kind_at}
 use Rattle.manifest.specs.Payload.{entry_size}
 use Rattle.manifest.specs.Sized.{entries_of}
 use Rattle.manifest.specs.At.{Inside, entry_at, entries_at}
-use Rattle.manifest.proofs.At.{length_entry_at, length_entries_at, inside_tail}
+use Rattle.manifest.proofs.At.{length_entry_at, inside_tail}
 use Rattle.compact.specs.copies.Copies.{size_in, Standing, copy_at, copies_at, places_at, placed}
 use Rattle.compact.proofs.copies.CopyLaws.{copy_length, standing_tail}
 

@@ -7,7 +7,6 @@ use mathlib.Core.List.{List}
 use native.Mathlib.Omega.{arith}
 use lib.ListN.{length, take}
 use lib.Seq.{length-take-le}
-use borrow.Author.Tests.{not-true, not-false}
 use Rattle.octets.specs.Zero.{same_bytes}
 use Rattle.manifest.specs.At.{payload_at}
 use Rattle.confirm.specs.states.At.{states_held_at, payload_in, states_read_at}

@@ -1,7 +1,6 @@
 -- `crc32c::checksum` meets its contract, by each of the three ways.
 -- Assumes nothing.
 use mathlib.Core.Path.{refl, ◌∙◌}
-use native.Mathlib.Omega.{arith}
 use Rattle.crc32c.proofs.Words.{crc_of_by}
 use borrow.Author.Rules.{rules}
 use Rattle.crc32c.proofs.checksum.Statement.{statement}

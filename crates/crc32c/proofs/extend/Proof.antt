@@ -4,7 +4,6 @@ use mathlib.Core.Path.{refl, ◌∙◌}
 use native.Mathlib.Omega.{arith}
 use lib.Bits.{xor_lt}
 use Rattle.crc32c.proofs.ExtendLaws.{extended_by}
-use borrow.Author.Rules.{rules}
 use Rattle.crc32c.proofs.extend.Statement.{statement}
 use Rattle.crc32c.proofs.extend.Tie as tie
 

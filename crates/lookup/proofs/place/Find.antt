@@ -3,7 +3,7 @@
 use Rattle.std.specs.Prelude.{ℕ, suc, ◌+◌, ◌≤◌, ◌<◌, ◌≡◌, refl, true, false, List, drop}
 use Rattle.std.proofs.Math.Path.{sym, ap}
 use Rattle.std.proofs.Common.{subst, ◌∙◌, arith, add-one}
-use Rattle.std.proofs.Math.Option.{none, some, some-injective}
+use Rattle.std.proofs.Math.Option.{some, some-injective}
 use Rattle.std.proofs.Math.ListN.{length, get_or}
 use Rattle.opening.specs.FileManifest.{manifest_of}
 use Rattle.opening.proofs.FileManifestLaws.{refused_alike}

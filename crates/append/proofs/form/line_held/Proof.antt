@@ -1,7 +1,6 @@
 -- `append::form::line_held` meets its contract: each test that fails decides, and where all hold the last one does.
 -- Assumes nothing.
 use mathlib.Core.Path.{sym, ap, ◌∙◌}
-use borrow.Author.Tests.{not-true, not-false}
 use Rattle.segment.specs.Header.{flags_held}
 use Rattle.batch.proofs.Lines.{line_kind, line_reserved, line_manifest, line_zero, line_flags, line_offset, line_holds}
 use borrow.Author.Rules.{rules}

@@ -2,7 +2,6 @@
 -- Assumes nothing.
 use native.Mathlib.Omega.{arith}
 use Rattle.confirm.proofs.entries.Laid.{entry_laid}
-use borrow.Author.Rules.{rules}
 use Rattle.confirm.proofs.entries.put_entry.Goals as goal
 
 pub returns : goal.returns

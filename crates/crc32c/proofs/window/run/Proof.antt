@@ -1,7 +1,5 @@
 -- `crc32c::window::run` meets its contract, in its two cases.
 -- Assumes nothing.
-use mathlib.Core.Path.{◌∙◌}
-use native.Mathlib.Omega.{arith}
 use Rattle.crc32c.specs.Start.{reach_of, size_of}
 use borrow.Author.Rules.{rules}
 use Rattle.crc32c.proofs.window.run.Statement.{statement}

@@ -2,7 +2,6 @@
 -- Assumes nothing.
 use mathlib.Core.Path.{sym, ap}
 use Rattle.crc32c.specs.Start.{size_of}
-use borrow.Author.Rules.{rules}
 use Rattle.crc32c.proofs.window.size_of.Statement.{statement}
 use Rattle.crc32c.proofs.window.size_of.Tie as tie
 

@@ -2,7 +2,6 @@
 -- Assumes nothing.
 use mathlib.Core.Path.{sym, ◌∙◌}
 use native.Mathlib.Omega.{arith}
-use borrow.Author.Tests.{not-true, not-false}
 use Rattle.idmap_write.proofs.refusal.RefusalLaws.{bad_none, bad_many, bad_interval, bad_ids, bad_not}
 use borrow.Author.Rules.{rules}
 use Rattle.idmap_write.proofs.refusal.refusal.Statement.{statement}

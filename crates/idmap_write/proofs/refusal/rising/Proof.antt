@@ -4,7 +4,6 @@ use Prim.Native.Nat.{◌-◌}
 use mathlib.Core.Path.{sym, ◌∙◌}
 use native.Mathlib.Omega.{arith}
 use lib.ListN.{length}
-use borrow.Author.Tests.{not-true, not-false}
 use Rattle.idmap_write.proofs.refusal.RefusalLaws.{RiseAt, rise_first, rise_next, rise_stop, rise_last}
 use borrow.Author.Rules.{rules}
 use Rattle.idmap_write.proofs.refusal.rising.Statement.{statement}

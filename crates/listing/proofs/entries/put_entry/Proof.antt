@@ -1,6 +1,5 @@
 -- `listing::entries::put_entry` meets its contract: the word for either state.
 -- Assumes nothing.
-use mathlib.Core.Path.{refl}
 use native.Mathlib.Omega.{arith}
 use Rattle.octets.specs.text.Text.{ascii}
 use Rattle.listing.proofs.line.Lines.{state_live, state_retired}

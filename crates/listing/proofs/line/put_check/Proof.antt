@@ -1,6 +1,5 @@
 -- `listing::line::put_check` meets its contract: the word for either case.
 -- Assumes nothing.
-use mathlib.Core.Path.{refl}
 use native.Mathlib.Omega.{arith}
 use Rattle.octets.specs.text.Text.{ascii}
 use Rattle.listing.proofs.line.Lines.{check_ok, check_bad}

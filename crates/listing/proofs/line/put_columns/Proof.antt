@@ -1,6 +1,6 @@
 -- `listing::line::put_columns` meets its contract: two numbers, each with the space behind it.
 -- Assumes nothing.
-use mathlib.Core.Path.{refl, ◌∙◌}
+use mathlib.Core.Path.{◌∙◌}
 use native.Mathlib.Omega.{arith}
 use Rattle.octets.specs.text.Text.{ascii}
 use Rattle.octets.proofs.text.Written.{then}

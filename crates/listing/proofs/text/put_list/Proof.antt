@@ -1,7 +1,7 @@
 -- `listing::text::put_list` meets its contract: the heading, the entries, the manifest and the last line, one right behind the other.
 -- Assumes nothing.
 use Prim.Native.Nat.{◌≤◌}
-use mathlib.Core.Path.{refl, ◌∙◌}
+use mathlib.Core.Path.{◌∙◌}
 use native.Mathlib.Omega.{arith}
 use Rattle.octets.specs.text.Text.{ascii}
 use Rattle.listing.proofs.text.Whole.{m, list_room, list_written}

@@ -1,6 +1,6 @@
 -- `listing::text::put_text` meets its contract: too long for the lister, or by what opening answers.
 -- Assumes nothing.
-use mathlib.Core.Path.{refl, sym, ◌∙◌}
+use mathlib.Core.Path.{sym, ◌∙◌}
 use native.Mathlib.Omega.{arith}
 use Rattle.opening.proofs.FileManifestLaws.{manifest_at}
 use Rattle.octets.specs.text.Text.{ascii}

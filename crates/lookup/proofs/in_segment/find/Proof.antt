@@ -2,7 +2,6 @@
 -- Assumes nothing.
 use mathlib.Core.Path.{sym, ◌∙◌}
 use native.Mathlib.Omega.{arith}
-use borrow.Author.Tests.{not-true, not-false}
 use Rattle.lookup.proofs.in_segment.LocatedLaws.{segment_torn, segment_bad, segment_missing, segment_found, sum_missing, sum_found}
 use borrow.Author.Rules.{rules}
 use Rattle.lookup.proofs.in_segment.find.Statement.{statement}

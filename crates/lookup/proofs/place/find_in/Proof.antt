@@ -4,7 +4,6 @@ use Rattle.opening.proofs.Indexed.{EntryAt, entry_at}
 use Prim.Native.Nat.{◌-◌}
 use mathlib.Core.Path.{sym, ◌∙◌}
 use native.Mathlib.Omega.{arith}
-use borrow.Author.Tests.{not-true, not-false}
 use Rattle.lookup.proofs.place.Find.{FindAt, find_first, find_last, find_other, find_retired, find_reserved, find_torn, find_whole}
 use borrow.Author.Rules.{rules}
 use Rattle.lookup.proofs.place.find_in.Statement.{statement}

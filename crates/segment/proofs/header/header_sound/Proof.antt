@@ -5,7 +5,7 @@ use mathlib.Core.Path.{sym, ap, ◌∙◌}
 use native.Mathlib.Omega.{arith}
 use lib.Dec.{leb}
 use lib.Seq.{length-take-le}
-use borrow.Author.Tests.{not-true, not-false, ne_eqb}
+use borrow.Author.Tests.{ne_eqb}
 use Rattle.segment.specs.Header.{flags_held}
 use Rattle.octets.specs.numbers.Numbers.{least_next}
 use Rattle.segment.specs.Step.{least_id}

@@ -2,7 +2,6 @@
 -- Assumes nothing.
 use mathlib.Core.Path.{sym, ◌∙◌}
 use native.Mathlib.Omega.{arith}
-use borrow.Author.Tests.{not-true, not-false}
 use Rattle.octets.proofs.RoundLaws.{round64_ge}
 use Rattle.segment.proofs.StepLaws.{step_short, step_cut, step_unsound, step_padding, step_sound}
 use borrow.Author.Rules.{rules}

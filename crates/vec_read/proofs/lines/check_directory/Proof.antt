@@ -2,7 +2,6 @@
 -- Assumes nothing.
 use mathlib.Core.Path.{sym, ◌∙◌}
 use native.Mathlib.Omega.{arith}
-use borrow.Author.Tests.{not-true, not-false}
 use Rattle.vecseg.specs.Payload.{block_count}
 use Rattle.vec_read.proofs.lines.Directory.{directory_short, directory_many, directory_cut, directory_lines, directory_fill, directory_good}
 use borrow.Author.Rules.{rules}

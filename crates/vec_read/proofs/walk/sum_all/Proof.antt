@@ -1,7 +1,6 @@
 -- `vec_read::walk::sum_all` meets its contract: what is left behind the last block that was joined is taken in.
 -- Assumes nothing.
 use mathlib.Core.Path.{refl}
-use borrow.Author.Tests.{not-true, not-false}
 use Rattle.vec_read.proofs.walk.SumLaws.{sum_not, sum_last}
 use borrow.Author.Rules.{rules}
 use Rattle.vec_read.proofs.walk.sum_all.Statement.{statement}

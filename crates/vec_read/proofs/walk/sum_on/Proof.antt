@@ -1,6 +1,5 @@
 -- `vec_read::walk::sum_on` meets its contract: the bytes before a long block are taken in, and the block's own checksum is joined behind them.
 -- Assumes nothing.
-use borrow.Author.Tests.{not-false}
 use Rattle.vec_read.proofs.walk.SumLaws.{sum_joined}
 use borrow.Author.Rules.{rules}
 use Rattle.vec_read.proofs.walk.sum_on.Statement.{statement}
