@@ -1,9 +1,5 @@
 -- Appending: the ways out of the function, the entries read and their states after retirement.
 pub mod Entries
-pub mod Retiring
-pub mod Begins
-pub mod bodies
 pub mod commit
 pub mod retire
 pub mod vectors
-pub mod AppendLaws

@@ -2,4 +2,3 @@
 pub mod Answer
 pub mod Base
 pub mod Commit
-pub mod Written

@@ -1,3 +1,2 @@
 -- A file compacted, a batch appended to the fresh one, and that opened.
 pub mod Anew
-pub mod AnewLaws

@@ -1,3 +1,2 @@
 -- Two batches appended and the file opened, by the model.
 pub mod Twice
-pub mod TwiceLaws

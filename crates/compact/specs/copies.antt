@@ -1,6 +1,2 @@
 -- The fresh file by the old one and offsets, and the steps of writing it.
 pub mod Copies
-pub mod CopyLaws
-pub mod FileLaws
-pub mod Links
-pub mod PlaceLaws

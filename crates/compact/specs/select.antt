@@ -1,4 +1,2 @@
 -- What is selected, and the loop that does it.
 pub mod Selected
-pub mod Passed
-pub mod SelectLaws

@@ -1,7 +1,3 @@
 -- Getting room back: what compaction answers and writes, and what follows for those who read and append.
 pub mod Compact
-pub mod Copied
-pub mod Fresh
 pub mod Promise
-pub mod Same
-pub mod Theorem

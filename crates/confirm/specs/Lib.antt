@@ -1,3 +1,2 @@
-pub mod entries
 pub mod payload
 pub mod states

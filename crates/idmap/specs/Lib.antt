@@ -2,8 +2,3 @@
 pub mod Encode
 pub mod Decode
 pub mod DecodeLaws
-pub mod DeltaLaws
-pub mod Count
-pub mod EncodeLaws
-pub mod Accepted
-pub mod Trip

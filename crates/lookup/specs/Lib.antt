@@ -1,3 +1,2 @@
 pub mod in_segment
-pub mod place
 pub mod vector

@@ -4,12 +4,4 @@ pub mod Opening
 pub mod Sized
 pub mod At
 pub mod Directory
-pub mod Lying
-pub mod OpeningLaws
-pub mod EntryOut
-pub mod OpenOut
-pub mod SizedLaws
-pub mod PayloadLaws
-pub mod Made
 pub mod Former
-pub mod FormerLaws

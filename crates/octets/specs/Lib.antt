@@ -1,11 +1,7 @@
 -- Lists of bytes: what is laid over a buffer, zero bytes, equal bytes, rounding to 64, parts.
 pub mod Over
-pub mod Parts
 pub mod Round
 pub mod Zero
 pub mod le
 pub mod text
 pub mod numbers
-pub mod OverLaws
-pub mod RoundLaws
-pub mod ZeroLaws

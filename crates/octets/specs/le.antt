@@ -1,3 +1,2 @@
--- Little-endian numbers, and their laws.
+-- Little-endian numbers.
 pub mod Le
-pub mod Laws

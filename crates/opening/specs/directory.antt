@@ -1,3 +1,2 @@
 -- What the directory answers for an index, and the ways to it.
 pub mod Entry
-pub mod EntryLaws

@@ -3,14 +3,8 @@
 pub mod Chained
 pub mod Header
 pub mod Laws
-pub mod Readback
-pub mod Rewritten
 pub mod Search
 pub mod Step
-pub mod Tests
 pub mod Written
 pub mod chain
 pub mod index
-pub mod write
-pub mod WrittenLaws
-pub mod HeaderLaws

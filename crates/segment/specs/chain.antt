@@ -2,9 +2,4 @@
 -- of links, searching from the end, and a format that reads more.
 pub mod Chain
 pub mod Laws
-pub mod Framed
 pub mod Last
-pub mod Places
-pub mod Search
-pub mod Walk
-pub mod Wider

@@ -1,4 +1,3 @@
 -- The offsets of a chain's first links, and the search from the file's end that goes by them.
-pub mod Down
 pub mod Numbered
 pub mod Offsets

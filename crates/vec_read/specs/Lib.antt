@@ -1,5 +1,4 @@
 -- A vector by its id out of a payload.
-pub mod Vector
 pub mod block
 pub mod lines
 pub mod values

@@ -1,4 +1,2 @@
 -- A vector's bytes, and a component by its kind.
-pub mod Component
-pub mod Bytes
 pub mod Vector

@@ -1,4 +1,3 @@
 -- What the walk over the blocks answers, block by block.
 pub mod Walk
 pub mod Sum
-pub mod Turn

@@ -2,17 +2,18 @@
 -- Assumes nothing.
 use mathlib.Core.Option.{none}
 use Rattle.octets.specs.le.Le.{Bytes}
-use Rattle.opening.specs.Indexed.{ManifestAt, opened_refused, opened_none, opened_at, opened_end, manifest_room}
+use Rattle.opening.specs.Indexed.{ManifestAt}
+use Rattle.opening.proofs.Indexed.{opened_refused, opened_none, opened_at, opened_end, manifest_room}
 use Prim.Native.Nat.{ℕ}
 use mathlib.Core.Path.{◌≡◌, refl, sym, ap, ◌∙◌}
 use native.Mathlib.Omega.{arith}
 use lib.ListN.{take, length-take}
 use lib.Seq.{length-take-le}
 use borrow.Author.Tests.{not-true, not-false}
-use Rattle.octets.specs.le.Laws.{bytes_take}
+use Rattle.octets.proofs.le.Laws.{bytes_take}
 use Rattle.manifest.specs.Opening.{opened}
-use Rattle.append.specs.AppendLaws.{way_room, way_limit, way_none, way_batch, taken_held, way_retire, way_done}
-use Rattle.append.specs.Begins.{base_empty, states_empty, retire_none, retire_some, front_opens, base_later, states_later}
+use Rattle.append.proofs.AppendLaws.{way_room, way_limit, way_none, way_batch, taken_held, way_retire, way_done}
+use Rattle.append.proofs.Begins.{base_empty, states_empty, retire_none, retire_some, front_opens, base_later, states_later}
 use borrow.Author.Rules.{rules}
 use Rattle.append.proofs.append.Statement.{statement}
 use Rattle.append.proofs.append.Tie as tie

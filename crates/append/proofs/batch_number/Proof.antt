@@ -3,7 +3,7 @@
 use mathlib.Core.Path.{sym, ◌∙◌}
 use native.Mathlib.Omega.{arith}
 use borrow.Author.Tests.{not-true, not-false}
-use Rattle.append.specs.commit.Answer.{number_form, number_vectors}
+use Rattle.append.proofs.commit.Answer.{number_form, number_vectors}
 use borrow.Author.Rules.{rules}
 use Rattle.append.proofs.batch_number.Statement.{statement}
 use Rattle.append.proofs.batch_number.Tie as tie

@@ -3,7 +3,7 @@
 use Prim.Native.Nat.{◌-◌}
 use native.Mathlib.Omega.{arith}
 use lib.ListN.{length}
-use Rattle.append.specs.Entries.{ReadAt, read_first, read_next, read_last}
+use Rattle.append.proofs.Entries.{ReadAt, read_first, read_next, read_last}
 use borrow.Author.Rules.{rules}
 use Rattle.append.proofs.read_entries.Statement.{statement}
 use Rattle.append.proofs.read_entries.Tie as tie

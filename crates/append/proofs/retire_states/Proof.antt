@@ -5,8 +5,8 @@ use mathlib.Core.Path.{◌≡◌, sym, ap, ◌∙◌}
 use native.Mathlib.Omega.{arith}
 use lib.ListN.{length, take, drop, length-drop, length-replicate}
 use lib.Seq.{length-take-le}
-use Rattle.opening.specs.Indexed.{manifest_part, manifest_room, before_offsets}
-use Rattle.append.specs.Retiring.{entries_inside, lists_even, marks_held, marks_laid}
+use Rattle.opening.proofs.Indexed.{manifest_part, manifest_room, before_offsets}
+use Rattle.append.proofs.Retiring.{entries_inside, lists_even, marks_held, marks_laid}
 use borrow.Author.Rules.{rules}
 use Rattle.append.proofs.retire_states.Statement.{statement}
 use Rattle.append.proofs.retire_states.Tie as tie

@@ -2,9 +2,9 @@
 -- Assumes nothing.
 use mathlib.Core.Path.{sym, ◌∙◌}
 use native.Mathlib.Omega.{arith}
-use Rattle.opening.specs.Indexed.{opened_at}
-use Rattle.opening.specs.FileManifest.{manifest_at}
-use Rattle.compact.specs.CompactLaws.{compact_refused}
+use Rattle.opening.proofs.Indexed.{opened_at}
+use Rattle.opening.proofs.FileManifestLaws.{manifest_at}
+use Rattle.compact.proofs.CompactLaws.{compact_refused}
 use borrow.Author.Rules.{rules}
 use Rattle.compact.proofs.compact.Statement.{statement}
 use Rattle.compact.proofs.compact.Tie as tie

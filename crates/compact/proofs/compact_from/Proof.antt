@@ -5,17 +5,17 @@ use mathlib.Core.Path.{◌≡◌, sym, ap, ◌∙◌}
 use native.Mathlib.Omega.{arith}
 use lib.ListN.{length, take, length-map}
 use Rattle.octets.specs.Round.{round64}
-use Rattle.octets.specs.RoundLaws.{round64_lt}
+use Rattle.octets.proofs.RoundLaws.{round64_lt}
 use Rattle.octets.specs.le.Le.{Bytes}
 use Rattle.segment.specs.Header.{Link}
 use Rattle.segment.specs.Chained.{offsets_of}
 use Rattle.segment.specs.index.Numbered.{Numbered}
 use Rattle.manifest.specs.Payload.{payload_length}
-use Rattle.manifest.specs.PayloadLaws.{payload_round}
-use Rattle.opening.specs.Indexed.{manifest_numbered}
+use Rattle.manifest.proofs.PayloadLaws.{payload_round}
+use Rattle.opening.proofs.Indexed.{manifest_numbered}
 use Rattle.compacting.specs.Compact.{copied, fresh_file}
-use Rattle.compact.specs.CompactLaws.{Chosen, chosen, chosen_offsets, compact_damaged, fresh_ends, fresh_small, compact_short, compact_done}
-use Rattle.compact.specs.copies.Links.{fresh_standing, fresh_end}
+use Rattle.compact.proofs.CompactLaws.{Chosen, chosen, chosen_offsets, compact_damaged, fresh_ends, fresh_small, compact_short, compact_done}
+use Rattle.compact.proofs.copies.Links.{fresh_standing, fresh_end}
 use borrow.Author.Rules.{rules}
 use Rattle.compact.proofs.compact_from.Statement.{statement}
 use Rattle.compact.proofs.compact_from.Tie as tie

@@ -11,7 +11,7 @@ use borrow.Author.Tests.{not-true, not-false}
 use Rattle.octets.specs.Zero.{same_bytes}
 use Rattle.manifest.specs.At.{payload_at}
 use Rattle.confirm.specs.states.At.{states_held_at, payload_in, states_read_at}
-use Rattle.confirm.specs.states.Steps.{payload_aligned, part_room, states_are, compared, not_held, other_payload, by_hash, part_rooted, part_sum}
+use Rattle.confirm.proofs.states.Steps.{payload_aligned, part_room, states_are, compared, not_held, other_payload, by_hash, part_rooted, part_sum}
 use borrow.Author.Rules.{rules}
 use Rattle.confirm.proofs.confirm_with.Statement.{statement}
 use Rattle.confirm.proofs.confirm_with.Tie as tie

@@ -9,7 +9,7 @@ use Rattle.octets.specs.Round.{round64}
 use Rattle.manifest.specs.Sized.{record_by}
 use Rattle.manifest.specs.Payload.{payload_length}
 use Rattle.confirm.specs.states.At.{confirmed_at}
-use Rattle.confirm.specs.states.Steps.{other_kind, too_many, other_length}
+use Rattle.confirm.proofs.states.Steps.{other_kind, too_many, other_length}
 use borrow.Author.Rules.{rules}
 use Rattle.confirm.proofs.is_confirmed.Statement.{statement}
 use Rattle.confirm.proofs.is_confirmed.Tie as tie

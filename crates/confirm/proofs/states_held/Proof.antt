@@ -5,7 +5,7 @@ use mathlib.Core.Path.{sym, ◌∙◌}
 use native.Mathlib.Omega.{arith}
 use lib.ListN.{length}
 use borrow.Author.Tests.{not-true, not-false}
-use Rattle.confirm.specs.states.Steps.{HeldAt, held_first, held_stop, held_next, held_last}
+use Rattle.confirm.proofs.states.Steps.{HeldAt, held_first, held_stop, held_next, held_last}
 use borrow.Author.Rules.{rules}
 use Rattle.confirm.proofs.states_held.Statement.{statement}
 use Rattle.confirm.proofs.states_held.Tie as tie

@@ -6,7 +6,7 @@ use native.Mathlib.Omega.{arith}
 use lib.Bits.{bit_xor, xor_lt}
 use Rattle.octets.specs.le.Le.{Bytes}
 use Rattle.crc32c.specs.Crc.{crc_from}
-use Rattle.crc32c.specs.Words.{crc_from_lt}
+use Rattle.crc32c.proofs.Words.{crc_from_lt}
 use borrow.Author.Rules.{rules}
 use Rattle.crc32c.proofs.by_lanes.Statement.{statement}
 use Rattle.crc32c.proofs.by_lanes.Tie as tie

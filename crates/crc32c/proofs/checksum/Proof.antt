@@ -2,7 +2,7 @@
 -- Assumes nothing.
 use mathlib.Core.Path.{refl, ◌∙◌}
 use native.Mathlib.Omega.{arith}
-use Rattle.crc32c.specs.Words.{crc_of_by}
+use Rattle.crc32c.proofs.Words.{crc_of_by}
 use borrow.Author.Rules.{rules}
 use Rattle.crc32c.proofs.checksum.Statement.{statement}
 use Rattle.crc32c.proofs.checksum.Tie as tie

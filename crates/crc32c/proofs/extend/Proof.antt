@@ -3,7 +3,7 @@
 use mathlib.Core.Path.{refl, ◌∙◌}
 use native.Mathlib.Omega.{arith}
 use lib.Bits.{xor_lt}
-use Rattle.crc32c.specs.Extend.{extended_by}
+use Rattle.crc32c.proofs.ExtendLaws.{extended_by}
 use borrow.Author.Rules.{rules}
 use Rattle.crc32c.proofs.extend.Statement.{statement}
 use Rattle.crc32c.proofs.extend.Tie as tie

@@ -2,7 +2,7 @@
 -- Assumes nothing.
 use Rattle.std.proofs.Common.{◌≡◌, ◌-◌, ◌<◌, ℕ, refl, sym, ap, ◌∙◌, arith}
 use Rattle.crc32c.specs.Crc.{bits}
-use Rattle.crc32c.specs.Linear.{bits_none, step_odd, step_even}
+use Rattle.crc32c.proofs.Linear.{bits_none, step_odd, step_even}
 use Rattle.crc32c.proofs.steps.Goals as goal
 use Rattle.crc32c.proofs.steps.Goals.{then-register-eq1, else-register-eq1}
 

@@ -3,7 +3,7 @@
 use mathlib.Core.Path.{refl}
 use native.Mathlib.Omega.{arith}
 use lib.Bits.{xor_lt}
-use Rattle.crc_join.specs.Join.{extended_joined}
+use Rattle.crc_join.proofs.Join.{extended_joined}
 use borrow.Author.Rules.{rules}
 use Rattle.crc_join.proofs.extend_by.Statement.{statement}
 use Rattle.crc_join.proofs.extend_by.Tie as tie

@@ -5,8 +5,8 @@ use mathlib.Core.Path.{◌≡◌, sym, ap, ◌∙◌}
 use native.Mathlib.Omega.{arith}
 use borrow.Author.Rules.{rules}
 use Rattle.crc32c.specs.Crc.{poly, bits}
-use Rattle.crc32c.specs.Linear.{bits_none}
-use Rattle.crc32c.specs.Product.{zeros_one, zeros_none, on_by_lt, room, room_half}
+use Rattle.crc32c.proofs.Linear.{bits_none}
+use Rattle.crc32c.proofs.Product.{zeros_one, zeros_none, on_by_lt, room, room_half}
 use Rattle.crc_join.proofs.zeros.Goals as goal
 use Rattle.crc_join.proofs.zeros.Goals.{then-m-eq1, else-m-eq1}
 

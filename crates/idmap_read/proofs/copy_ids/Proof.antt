@@ -7,7 +7,7 @@ use native.Mathlib.Omega.{arith}
 use lib.ListN.{length, take}
 use lib.Seq.{take-suc, length-take-le}
 use Rattle.octets.specs.Over.{over}
-use Rattle.octets.specs.OverLaws.{over_none, over_front}
+use Rattle.octets.proofs.OverLaws.{over_none, over_front}
 use borrow.Author.Rules.{rules}
 use Rattle.idmap_read.proofs.copy_ids.Statement.{statement}
 use Rattle.idmap_read.proofs.copy_ids.Tie as tie

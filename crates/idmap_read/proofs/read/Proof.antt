@@ -1,7 +1,7 @@
 -- `idmap_read::read` meets its contract: a count out of bounds, and a map read through a list of our scratch.
 -- Assumes nothing.
 use native.Mathlib.Omega.{arith}
-use Rattle.idmap_read.specs.ReadLaws.{read_none, read_over}
+use Rattle.idmap_read.proofs.ReadLaws.{read_none, read_over}
 use borrow.Author.Rules.{rules}
 use Rattle.idmap_read.proofs.read.Statement.{statement}
 use Rattle.idmap_read.proofs.read.Tie as tie

@@ -2,7 +2,7 @@
 -- Assumes nothing.
 use mathlib.Core.Path.{sym, ◌∙◌}
 use native.Mathlib.Omega.{arith}
-use Rattle.idmap_read.specs.ReadLaws.{read_broken, read_short, read_done}
+use Rattle.idmap_read.proofs.ReadLaws.{read_broken, read_short, read_done}
 use borrow.Author.Rules.{rules}
 use Rattle.idmap_read.proofs.read_through.Statement.{statement}
 use Rattle.idmap_read.proofs.read_through.Tie as tie

@@ -3,7 +3,7 @@
 use mathlib.Core.Path.{sym}
 use native.Mathlib.Omega.{arith}
 use Rattle.idmap.specs.Decode.{groups}
-use Rattle.idmap_write.specs.WriteLaws.{Raw, raw_facts, Delta, delta_facts}
+use Rattle.idmap_write.proofs.WriteLaws.{Raw, raw_facts, Delta, delta_facts}
 use borrow.Author.Rules.{rules}
 use Rattle.idmap_write.proofs.encoded_len.Statement.{statement}
 use Rattle.idmap_write.proofs.encoded_len.Tie as tie

@@ -2,8 +2,8 @@
 -- Assumes nothing.
 use native.Mathlib.Omega.{arith}
 use Rattle.idmap.specs.Decode.{groups}
-use Rattle.idmap.specs.EncodeLaws.{length_head}
-use Rattle.idmap_write.specs.WriteLaws.{Raw, raw_facts, Delta, delta_facts, whole_laid}
+use Rattle.idmap.proofs.EncodeLaws.{length_head}
+use Rattle.idmap_write.proofs.WriteLaws.{Raw, raw_facts, Delta, delta_facts, whole_laid}
 use borrow.Author.Rules.{rules}
 use Rattle.idmap_write.proofs.put.Statement.{statement}
 use Rattle.idmap_write.proofs.put.Tie as tie

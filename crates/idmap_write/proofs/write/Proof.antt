@@ -2,7 +2,7 @@
 -- Assumes nothing.
 use mathlib.Core.Path.{sym, ◌∙◌}
 use native.Mathlib.Omega.{arith}
-use Rattle.answers.specs.WriteLaws.{write_bad, write_short, write_done}
+use Rattle.answers.proofs.WriteLaws.{write_bad, write_short, write_done}
 use borrow.Author.Rules.{rules}
 use Rattle.idmap_write.proofs.write.Statement.{statement}
 use Rattle.idmap_write.proofs.write.Tie as tie

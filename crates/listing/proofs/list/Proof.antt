@@ -5,7 +5,7 @@ use mathlib.Core.Path.{sym, subst}
 use native.Mathlib.Nat.{le_refl}
 use native.Mathlib.Omega.{arith}
 use lib.ListN.{length-replicate}
-use Rattle.listing.specs.text.Whole.{front_within, front_length, text_short, text_copied}
+use Rattle.listing.proofs.text.Whole.{front_within, front_length, text_short, text_copied}
 use Rattle.listing.proofs.list.Statement.{statement}
 use Rattle.listing.proofs.list.Tie as tie
 

@@ -1,6 +1,6 @@
 -- `octets::clear_part` meets its contract: a part of the buffer comes back as zeros.
 -- Assumes nothing.
-use Rattle.octets.specs.Parts.{cleared}
+use Rattle.octets.proofs.Parts.{cleared}
 use borrow.Author.Rules.{rules}
 use Rattle.octets.proofs.clear_part.Statement.{statement}
 use Rattle.octets.proofs.clear_part.Tie as tie

@@ -7,7 +7,7 @@ use native.Mathlib.Omega.{arith}
 use lib.ListN.{length, take}
 use lib.Seq.{take-suc, take_all, length-take-le}
 use Rattle.octets.specs.Over.{over}
-use Rattle.octets.specs.OverLaws.{over_none, over_front}
+use Rattle.octets.proofs.OverLaws.{over_none, over_front}
 use borrow.Author.Rules.{rules}
 use Rattle.octets.proofs.copy.Statement.{statement}
 use Rattle.octets.proofs.copy.Tie as tie

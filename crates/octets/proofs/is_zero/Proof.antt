@@ -7,7 +7,7 @@ use native.Mathlib.Numerals.{add-one}
 use lib.Dec.{eqb}
 use lib.ListN.{length, drop}
 use Rattle.octets.specs.Zero.{all_zero}
-use Rattle.octets.specs.ZeroLaws.{zero_turn, zero_end}
+use Rattle.octets.proofs.ZeroLaws.{zero_turn, zero_end}
 use borrow.Author.Rules.{rules}
 use Rattle.octets.proofs.is_zero.Statement.{statement}
 use Rattle.octets.proofs.is_zero.Tie as tie

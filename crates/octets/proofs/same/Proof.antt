@@ -8,7 +8,7 @@ use native.Mathlib.Omega.{arith}
 use lib.Dec.{eqb}
 use lib.ListN.{length, drop}
 use Rattle.octets.specs.Zero.{same_bytes}
-use Rattle.octets.specs.ZeroLaws.{same_turn, same_end, same_length}
+use Rattle.octets.proofs.ZeroLaws.{same_turn, same_end, same_length}
 use borrow.Author.Rules.{rules}
 use Rattle.octets.proofs.same.Statement.{statement}
 use Rattle.octets.proofs.same.Tie as tie

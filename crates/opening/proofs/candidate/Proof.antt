@@ -2,8 +2,8 @@
 -- Assumes nothing.
 use mathlib.Core.Path.{refl}
 use native.Mathlib.Omega.{arith}
-use Rattle.segment.specs.index.Offsets.{stored_few}
-use Rattle.opening.specs.Candidate.{candidate_inside, candidate_is}
+use Rattle.segment.proofs.index.Offsets.{stored_few}
+use Rattle.opening.proofs.CandidateLaws.{candidate_inside, candidate_is}
 use Rattle.opening.proofs.candidate.Statement.{statement}
 use Rattle.opening.proofs.candidate.Tie as tie
 

@@ -1,7 +1,7 @@
 -- `opening::file_manifest` meets its contract, by what opening answers.
 -- Assumes nothing.
 use mathlib.Core.Path.{sym, ◌∙◌}
-use Rattle.opening.specs.FileManifest.{told_refused, told_none, told_at}
+use Rattle.opening.proofs.FileManifestLaws.{told_refused, told_none, told_at}
 use borrow.Author.Rules.{rules}
 use Rattle.opening.proofs.file_manifest.Statement.{statement}
 use Rattle.opening.proofs.file_manifest.Tie as tie

@@ -5,13 +5,13 @@ use mathlib.Core.Path.{◌≡◌, sym, ap, ◌∙◌}
 use native.Mathlib.Omega.{arith}
 use lib.ListN.{length}
 use Rattle.octets.specs.Round.{round64}
-use Rattle.octets.specs.RoundLaws.{round64_lt}
+use Rattle.octets.proofs.RoundLaws.{round64_lt}
 use Rattle.segment.specs.Header.{size}
-use Rattle.segment.specs.index.Offsets.{stored_few}
-use Rattle.segment.specs.index.Down.{DownAt, down_first, down_skip, down_not, down_found, down_none, down_link}
+use Rattle.segment.proofs.index.Offsets.{stored_few}
+use Rattle.segment.proofs.index.Down.{DownAt, down_first, down_skip, down_not, down_found, down_none, down_link}
 use Rattle.manifest.specs.Payload.{confirmed}
 use Rattle.manifest.specs.Opening.{opened}
-use Rattle.opening.specs.Opened.{bounded, found_none, found_at}
+use Rattle.opening.proofs.Opened.{bounded, found_none, found_at}
 use borrow.Author.Rules.{rules}
 use Rattle.opening.proofs.find_from_end.Statement.{statement}
 use Rattle.opening.proofs.find_from_end.Tie as tie

@@ -1,8 +1,8 @@
 -- `opening::open_with` meets its contract.
 -- Assumes nothing.
 use native.Mathlib.Omega.{arith}
-use Rattle.opening.specs.Opened.{open_long, open_within}
-use Rattle.opening.specs.Indexed.{indexed}
+use Rattle.opening.proofs.Opened.{open_long, open_within}
+use Rattle.opening.proofs.Indexed.{indexed}
 use borrow.Author.Rules.{rules}
 use Rattle.opening.proofs.open_with.Statement.{statement}
 use Rattle.opening.proofs.open_with.Tie as tie

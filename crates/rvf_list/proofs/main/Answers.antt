@@ -1,6 +1,6 @@
 -- The length that is answered lies within the buffer.
 use Rattle.std.proofs.Common.{sym, arith, length-take-le}
-use Rattle.answers.specs.WriteLaws.{wrote_within}
+use Rattle.answers.proofs.WriteLaws.{wrote_within}
 use Rattle.rvf_list.proofs.main.Goals as goal
 
 pub slice_bounds-text-end : goal.slice_bounds-text-end

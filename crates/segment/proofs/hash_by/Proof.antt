@@ -1,6 +1,6 @@
 -- `segment::hash_by` meets its contract: the checksum laid over zeros.
 -- Assumes nothing.
-use Rattle.segment.specs.HeaderLaws.{hash_laid}
+use Rattle.segment.proofs.HeaderLaws.{hash_laid}
 use borrow.Author.Rules.{rules}
 use Rattle.segment.proofs.hash_by.Statement.{statement}
 use Rattle.segment.proofs.hash_by.Tie as tie

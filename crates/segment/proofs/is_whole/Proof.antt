@@ -2,7 +2,7 @@
 -- Assumes nothing.
 use mathlib.Core.Path.{ap, ◌∙◌}
 use Rattle.crc32c.specs.Crc.{crc_of}
-use Rattle.segment.specs.Step.{payload_part}
+use Rattle.segment.proofs.StepLaws.{payload_part}
 use borrow.Author.Rules.{rules}
 use Rattle.segment.proofs.is_whole.Statement.{statement}
 use Rattle.segment.proofs.is_whole.Tie as tie

@@ -1,7 +1,7 @@
 -- `segment::is_whole_by` meets its contract: the header's hash is compared with the one that the checksum makes.
 -- Assumes nothing.
-use Rattle.segment.specs.HeaderLaws.{hash_of}
-use Rattle.segment.specs.Step.{whole_by}
+use Rattle.segment.proofs.HeaderLaws.{hash_of}
+use Rattle.segment.proofs.StepLaws.{whole_by}
 use borrow.Author.Rules.{rules}
 use Rattle.segment.proofs.is_whole_by.Statement.{statement}
 use Rattle.segment.proofs.is_whole_by.Tie as tie

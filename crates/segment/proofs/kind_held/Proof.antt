@@ -1,7 +1,7 @@
 -- `segment::kind_held` meets its contract.
 -- Assumes nothing.
 use native.Mathlib.Omega.{arith}
-use Rattle.segment.specs.HeaderLaws.{kind_byte}
+use Rattle.segment.proofs.HeaderLaws.{kind_byte}
 use Rattle.segment.proofs.kind_held.Statement.{statement}
 use Rattle.segment.proofs.kind_held.Tie as tie
 

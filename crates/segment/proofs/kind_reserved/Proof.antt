@@ -1,7 +1,7 @@
 -- `segment::kind_reserved` meets its contract, by its ways out.
 -- Assumes nothing.
 use native.Mathlib.Omega.{arith}
-use Rattle.segment.specs.HeaderLaws.{reserved_low, reserved_high}
+use Rattle.segment.proofs.HeaderLaws.{reserved_low, reserved_high}
 use Rattle.segment.proofs.kind_reserved.Statement.{statement}
 use Rattle.segment.proofs.kind_reserved.Tie as tie
 

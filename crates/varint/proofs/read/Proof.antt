@@ -2,7 +2,7 @@
 -- Assumes nothing.
 use mathlib.Core.Path.{◌∙◌}
 use native.Mathlib.Omega.{arith}
-use Rattle.varint.specs.Read.{read_none, read_one, read_on}
+use Rattle.varint.proofs.ReadLaws.{read_none, read_one, read_on}
 use borrow.Author.Rules.{rules}
 use Rattle.varint.proofs.read.Statement.{statement}
 use Rattle.varint.proofs.read.Tie as tie

@@ -5,7 +5,7 @@ use mathlib.Core.Path.{◌≡◌, refl, sym, ◌∙◌}
 use native.Mathlib.Omega.{arith}
 use lib.ListN.{get_or, drop}
 use Rattle.varint.specs.Varint.{onto, decode}
-use Rattle.varint.specs.Read.{Left, ReadSoFar, starts, stands_fits, stands_next, left_none, left_zero, left_value, left_next, tenth_one, tenth_bad}
+use Rattle.varint.proofs.ReadLaws.{Left, ReadSoFar, starts, stands_fits, stands_next, left_none, left_zero, left_value, left_next, tenth_one, tenth_bad}
 use borrow.Author.Rules.{rules}
 use Rattle.varint.proofs.read_rest.Statement.{statement}
 use Rattle.varint.proofs.read_rest.Tie as tie

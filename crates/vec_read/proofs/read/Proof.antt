@@ -1,7 +1,7 @@
 -- `vec_read::read` meets its contract, by its ways out.
 -- Assumes nothing.
 use mathlib.Core.Path.{sym, ◌∙◌}
-use Rattle.vec_read.specs.Vector.{get_bad, get_missing, get_bounds, get_short, get_read, found_bad, found_none, found_at}
+use Rattle.vec_read.proofs.Vector.{get_bad, get_missing, get_bounds, get_short, get_read, found_bad, found_none, found_at}
 use borrow.Author.Rules.{rules}
 use Rattle.vec_read.proofs.read.Statement.{statement}
 use Rattle.vec_read.proofs.read.Tie as tie

@@ -2,8 +2,8 @@
 -- Assumes nothing.
 use native.Mathlib.Omega.{arith}
 use lib.ListN.{length}
-use Rattle.vecseg.specs.LineLaws.{width_most, columns_fit}
-use Rattle.vec_write.specs.Refusal.{bad_dtype, bad_low, bad_high, bad_tier, bad_many, bad_columns, bad_map}
+use Rattle.vecseg.proofs.LineLaws.{width_most, columns_fit}
+use Rattle.vec_write.proofs.RefusalLaws.{bad_dtype, bad_low, bad_high, bad_tier, bad_many, bad_columns, bad_map}
 use borrow.Author.Rules.{rules}
 use Rattle.vec_write.proofs.refusal.Statement.{statement}
 use Rattle.vec_write.proofs.refusal.Tie as tie

@@ -4,11 +4,11 @@ use Prim.Native.Nat.{◌+◌}
 use mathlib.Core.Path.{◌≡◌, sym, ◌∙◌}
 use native.Mathlib.Omega.{arith}
 use lib.ListN.{length}
-use Rattle.answers.specs.WriteLaws.{write_bad, write_short, write_done}
-use Rattle.octets.specs.RoundLaws.{round64_lt}
+use Rattle.answers.proofs.WriteLaws.{write_bad, write_short, write_done}
+use Rattle.octets.proofs.RoundLaws.{round64_lt}
 use Rattle.vecseg.specs.Writer.{vec_bytes}
-use Rattle.vecseg.specs.WriterLaws.{WriterAccepts, accepted, held_small}
-use Rattle.vecseg.specs.Laid.{payload_size, payload_laid}
+use Rattle.vecseg.proofs.WriterLaws.{WriterAccepts, accepted, held_small}
+use Rattle.vecseg.proofs.Laid.{payload_size, payload_laid}
 use borrow.Author.Rules.{rules}
 use Rattle.vec_write.proofs.write.Statement.{statement}
 use Rattle.vec_write.proofs.write.Tie as tie

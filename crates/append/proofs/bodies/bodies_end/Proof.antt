@@ -1,14 +1,15 @@
 -- `append::bodies::bodies_end` meets its contract, by where the loop over the bodies stands.
 -- Assumes nothing.
 use lib.ListN.{length}
-use Rattle.batch.specs.Lines.{BodyAt, no_body, bodies_count, count_is, held_bounds, body_at}
+use Rattle.batch.specs.Lines.{no_body}
+use Rattle.batch.proofs.Lines.{BodyAt, bodies_count, count_is, held_bounds, body_at}
 use Prim.Native.Nat.{◌-◌, ◌<◌}
 use mathlib.Core.Path.{sym, ap, ◌∙◌}
 use native.Mathlib.Omega.{arith}
 use Rattle.octets.specs.Round.{round64}
-use Rattle.octets.specs.RoundLaws.{round64_lt}
+use Rattle.octets.proofs.RoundLaws.{round64_lt}
 use Rattle.batch.specs.Form.{bodies_of}
-use Rattle.append.specs.bodies.Bodies.{EndAt, end_first, end_next, end_last}
+use Rattle.append.proofs.bodies.Bodies.{EndAt, end_first, end_next, end_last}
 use borrow.Author.Rules.{rules}
 use Rattle.append.proofs.bodies.bodies_end.Statement.{statement}
 use Rattle.append.proofs.bodies.bodies_end.Tie as tie

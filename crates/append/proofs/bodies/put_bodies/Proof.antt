@@ -4,14 +4,15 @@ use Prim.Native.Nat.{◌+◌, ◌-◌, ◌*◌, ◌≤◌, ◌<◌}
 use mathlib.Core.Path.{◌≡◌, refl, sym, ap, ◌∙◌}
 use native.Mathlib.Omega.{arith}
 use lib.ListN.{length, take, drop, get_or, length-take, length-drop}
-use Rattle.octets.specs.Parts.{back}
+use Rattle.octets.proofs.Parts.{back}
 use Rattle.octets.specs.Round.{round64}
 use Rattle.crc32c.specs.Crc.{crc_of}
 use Rattle.batch.specs.Form.{bodies_of}
-use Rattle.batch.specs.Lines.{no_body, bodies_count, count_is, held_bounds, body_at}
-use Rattle.append.specs.bodies.Bodies.{BodiesPut, put_first, put_room, put_next, put_last}
-use Rattle.append.specs.bodies.Laid.{body_part, body_inside, body_segment, body_length}
-use Rattle.append.specs.vectors.Vectors.{sum_at}
+use Rattle.batch.specs.Lines.{no_body}
+use Rattle.batch.proofs.Lines.{bodies_count, count_is, held_bounds, body_at}
+use Rattle.append.proofs.bodies.Bodies.{BodiesPut, put_first, put_room, put_next, put_last}
+use Rattle.append.proofs.bodies.Laid.{body_part, body_inside, body_segment, body_length}
+use Rattle.append.proofs.vectors.Vectors.{sum_at}
 use borrow.Author.Rules.{rules}
 use Rattle.append.proofs.bodies.put_bodies.Statement.{statement}
 use Rattle.append.proofs.bodies.put_bodies.Tie as tie

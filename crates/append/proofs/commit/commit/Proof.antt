@@ -9,15 +9,16 @@ use lib.ListN.{length, take}
 use lib.Seq.{length-take-le}
 use borrow.Author.Tests.{ltb-false}
 use Rattle.octets.specs.Round.{round64}
-use Rattle.octets.specs.RoundLaws.{round64_lt}
+use Rattle.octets.proofs.RoundLaws.{round64_lt}
 use Rattle.manifest.specs.Payload.{payload_length}
 use Rattle.manifest.specs.Opening.{opened}
 use Rattle.batch.specs.Form.{bodies_of}
-use Rattle.batch.specs.Lines.{bodies_count, count_is, held_bounds}
+use Rattle.batch.proofs.Lines.{bodies_count, count_is, held_bounds}
 use Rattle.appending.specs.Append.{new_count, new_end, manifest_id}
-use Rattle.append.specs.commit.Commit.{next_id_of, commit_entries, commit_ids, commit_limit, commit_room, commit_done, count_number, id_number, end_number}
-use Rattle.manifest.specs.PayloadLaws.{payload_round}
-use Rattle.append.specs.commit.Written.{bodies_most, written_inside, written_all}
+use Rattle.append.specs.commit.Commit.{next_id_of}
+use Rattle.append.proofs.commit.CommitLaws.{commit_entries, commit_ids, commit_limit, commit_room, commit_done, count_number, id_number, end_number}
+use Rattle.manifest.proofs.PayloadLaws.{payload_round}
+use Rattle.append.proofs.commit.Written.{bodies_most, written_inside, written_all}
 use borrow.Author.Rules.{rules}
 use Rattle.append.proofs.commit.commit.Statement.{statement}
 use Rattle.append.proofs.commit.commit.Tie as tie

@@ -1,7 +1,7 @@
 -- `append::commit::ids_over` meets its contract.
 -- Assumes nothing.
 use native.Mathlib.Omega.{arith}
-use Rattle.append.specs.commit.Commit.{over_first, over_later}
+use Rattle.append.proofs.commit.CommitLaws.{over_first, over_later}
 use borrow.Author.Rules.{rules}
 use Rattle.append.proofs.commit.ids_over.Statement.{statement}
 use Rattle.append.proofs.commit.ids_over.Tie as tie

@@ -1,7 +1,7 @@
 -- `append::commit::next_id` meets its contract.
 -- Assumes nothing.
 use native.Mathlib.Omega.{arith}
-use Rattle.append.specs.commit.Commit.{next_first, next_later}
+use Rattle.append.proofs.commit.CommitLaws.{next_first, next_later}
 use Rattle.append.proofs.commit.next_id.Statement.{statement}
 use Rattle.append.proofs.commit.next_id.Tie as tie
 

@@ -4,7 +4,7 @@ use Prim.Native.Nat.{◌-◌}
 use mathlib.Core.Path.{sym, ◌∙◌}
 use native.Mathlib.Omega.{arith}
 use borrow.Author.Tests.{not-true, not-false}
-use Rattle.batch.specs.Lines.{batch_short, batch_long, batch_zeros, batch_many, batch_room, batch_lines, BatchLinesAt, lines_first, lines_stop, lines_next, lines_last}
+use Rattle.batch.proofs.Lines.{batch_short, batch_long, batch_zeros, batch_many, batch_room, batch_lines, BatchLinesAt, lines_first, lines_stop, lines_next, lines_last}
 use borrow.Author.Rules.{rules}
 use Rattle.append.proofs.form.check.Statement.{statement}
 use Rattle.append.proofs.form.check.Tie as tie

@@ -3,7 +3,7 @@
 use mathlib.Core.Path.{sym, ap, ◌∙◌}
 use borrow.Author.Tests.{not-true, not-false}
 use Rattle.segment.specs.Header.{flags_held}
-use Rattle.batch.specs.Lines.{line_kind, line_reserved, line_manifest, line_zero, line_flags, line_offset, line_holds}
+use Rattle.batch.proofs.Lines.{line_kind, line_reserved, line_manifest, line_zero, line_flags, line_offset, line_holds}
 use borrow.Author.Rules.{rules}
 use Rattle.append.proofs.form.line_held.Statement.{statement}
 use Rattle.append.proofs.form.line_held.Tie as tie

@@ -6,13 +6,14 @@ use mathlib.Core.List.{List}
 use native.Mathlib.Omega.{arith}
 use lib.ListN.{length, take, drop, length-take, length-drop}
 use lib.Seq.{length-take-le}
-use Rattle.octets.specs.Parts.{laid_front}
+use Rattle.octets.proofs.Parts.{laid_front}
 use Rattle.octets.specs.Round.{round64}
 use Rattle.manifest.specs.Payload.{payload_length}
-use Rattle.manifest.specs.At.{payload_at, length_payload_at}
-use Rattle.manifest.specs.PayloadLaws.{payload_most}
-use Rattle.confirm.specs.payload.Sum.{payload_rooted}
-use Rattle.append.specs.bodies.Laid.{manifest_laid}
+use Rattle.manifest.specs.At.{payload_at}
+use Rattle.manifest.proofs.At.{length_payload_at}
+use Rattle.manifest.proofs.PayloadLaws.{payload_most}
+use Rattle.confirm.proofs.payload.Sum.{payload_rooted}
+use Rattle.append.proofs.bodies.Laid.{manifest_laid}
 use borrow.Author.Rules.{rules}
 use Rattle.append.proofs.new_manifest.put_manifest.Statement.{statement}
 use Rattle.append.proofs.new_manifest.put_manifest.Tie as tie

@@ -6,8 +6,8 @@ use mathlib.Core.Bool.{false≢true}
 use native.Mathlib.Omega.{arith}
 use lib.ListN.{length}
 use lib.Seq.{take-length}
-use Rattle.octets.specs.numbers.NumbersLaws.{index_within, was_place, was_nowhere}
-use Rattle.append.specs.retire.Turn.{MarkAt, mark_first, mark_last, mark_states, mark_nowhere, mark_manifest, mark_retired, mark_next}
+use Rattle.octets.proofs.numbers.NumbersLaws.{index_within, was_place, was_nowhere}
+use Rattle.append.proofs.retire.Turn.{MarkAt, mark_first, mark_last, mark_states, mark_nowhere, mark_manifest, mark_retired, mark_next}
 use borrow.Author.Rules.{rules}
 use Rattle.append.proofs.retire.mark.Statement.{statement}
 use Rattle.append.proofs.retire.mark.Tie as tie

@@ -1,8 +1,8 @@
 -- `append::vectors::body_summed` meets its contract, by what a batch that has the form says of a body.
 -- Assumes nothing.
-use Rattle.batch.specs.Lines.{BodyAt, body_at}
+use Rattle.batch.proofs.Lines.{BodyAt, body_at}
 use native.Mathlib.Omega.{arith}
-use Rattle.append.specs.vectors.Vectors.{body_other, body_checked}
+use Rattle.append.proofs.vectors.Vectors.{body_other, body_checked}
 use borrow.Author.Rules.{rules}
 use Rattle.append.proofs.vectors.body_summed.Statement.{statement}
 use Rattle.append.proofs.vectors.body_summed.Tie as tie

@@ -5,8 +5,8 @@ use mathlib.Core.Path.{◌≡◌, sym, ◌∙◌}
 use native.Mathlib.Omega.{arith}
 use lib.ListN.{length}
 use Rattle.batch.specs.Form.{body_count, bodies_of}
-use Rattle.batch.specs.Lines.{held_bounds, bodies_count, count_is}
-use Rattle.append.specs.vectors.Vectors.{SumsAt, sums_first, sums_next, sums_stop, sums_last}
+use Rattle.batch.proofs.Lines.{held_bounds, bodies_count, count_is}
+use Rattle.append.proofs.vectors.Vectors.{SumsAt, sums_first, sums_next, sums_stop, sums_last}
 use borrow.Author.Rules.{rules}
 use Rattle.append.proofs.vectors.vectors_bad.Statement.{statement}
 use Rattle.append.proofs.vectors.vectors_bad.Tie as tie

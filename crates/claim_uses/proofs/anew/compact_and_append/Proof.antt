@@ -6,7 +6,7 @@ use native.Mathlib.Omega.{arith}
 use lib.ListN.{length}
 use lib.Seq.{length-take-le}
 use Rattle.octets.specs.le.Le.{Bytes}
-use Rattle.claim_uses.specs.anew.AnewLaws.{end_inside, way_opened, way_first, way_second}
+use Rattle.claim_uses.proofs.anew.AnewLaws.{end_inside, way_opened, way_first, way_second}
 use borrow.Author.Rules.{rules}
 use Rattle.claim_uses.proofs.anew.compact_and_append.Statement.{statement}
 use Rattle.claim_uses.proofs.anew.compact_and_append.Tie as tie

@@ -5,7 +5,7 @@ use lib.ListN.{length}
 use mathlib.Core.Path.{sym}
 use native.Mathlib.Omega.{arith}
 use lib.Seq.{length-take-le}
-use Rattle.claim_uses.specs.cut.CutReadLaws.{says_short, says_refused, says_whole, within, start_le, end_room, says_read}
+use Rattle.claim_uses.proofs.cut.CutReadLaws.{says_short, says_refused, says_whole, within, start_le, end_room, says_read}
 use borrow.Author.Rules.{rules}
 use Rattle.claim_uses.proofs.cut.append_and_cut.Statement.{statement}
 use Rattle.claim_uses.proofs.cut.append_and_cut.Tie as tie

@@ -1,7 +1,7 @@
 -- `start_of` meets its contract, by what opening answers.
 -- Assumes nothing.
 use mathlib.Core.Path.{sym, ◌∙◌}
-use Rattle.claim_uses.specs.cut.CutReadLaws.{start_refused, start_none, start_at}
+use Rattle.claim_uses.proofs.cut.CutReadLaws.{start_refused, start_none, start_at}
 use borrow.Author.Rules.{rules}
 use Rattle.claim_uses.proofs.cut.start_of.Statement.{statement}
 use Rattle.claim_uses.proofs.cut.start_of.Tie as tie

@@ -4,7 +4,7 @@ use Prim.Native.Nat.{◌≤◌}
 use lib.ListN.{length}
 use mathlib.Core.Path.{sym, ◌∙◌}
 use lib.Seq.{length-take-le}
-use Rattle.claim_uses.specs.twice.TwiceLaws.{end_inside, way_at, way_none, way_long, way_first, way_second}
+use Rattle.claim_uses.proofs.twice.TwiceLaws.{end_inside, way_at, way_none, way_long, way_first, way_second}
 use borrow.Author.Rules.{rules}
 use Rattle.claim_uses.proofs.twice.append_twice.Statement.{statement}
 use Rattle.claim_uses.proofs.twice.append_twice.Tie as tie

@@ -5,10 +5,10 @@ use mathlib.Core.Path.{◌≡◌, ap, ◌∙◌}
 use native.Mathlib.Omega.{arith}
 use lib.ListN.{length, get_or}
 use Rattle.octets.specs.Round.{round64}
-use Rattle.octets.specs.RoundLaws.{round64_ge}
+use Rattle.octets.proofs.RoundLaws.{round64_ge}
 use Rattle.segment.specs.Header.{length_at}
 use Rattle.compact.specs.copies.Copies.{size_in}
-use Rattle.compact.specs.copies.CopyLaws.{CopyAt, copy_first, copy_inside, copy_room, copy_next, copy_last}
+use Rattle.compact.proofs.copies.CopyLaws.{CopyAt, copy_first, copy_inside, copy_room, copy_next, copy_last}
 use borrow.Author.Rules.{rules}
 use Rattle.compact.proofs.copies.copy_segments.Statement.{statement}
 use Rattle.compact.proofs.copies.copy_segments.Tie as tie

@@ -8,22 +8,22 @@ use lib.Seq.{length-take-le}
 use mathlib.Core.List.{List, ◌++◌}
 use borrow.Rule.Slice.PartMut.{put_mid}
 use Rattle.octets.specs.Over.{over}
-use Rattle.octets.specs.OverLaws.{length_over}
-use Rattle.octets.specs.Parts.{back}
+use Rattle.octets.proofs.OverLaws.{length_over}
+use Rattle.octets.proofs.Parts.{back}
 use Rattle.octets.specs.Round.{round64}
-use Rattle.octets.specs.RoundLaws.{round64_ge}
-use Rattle.octets.specs.ZeroLaws.{zeros_front}
+use Rattle.octets.proofs.RoundLaws.{round64_ge}
+use Rattle.octets.proofs.ZeroLaws.{zeros_front}
 use Rattle.segment.specs.Header.{content_hash}
-use Rattle.segment.specs.HeaderLaws.{hash_of}
+use Rattle.segment.proofs.HeaderLaws.{hash_of}
 use Rattle.segment.specs.Written.{segment}
 use Rattle.manifest.specs.Payload.{payload_length}
 use Rattle.manifest.specs.At.{payload_at}
-use Rattle.manifest.specs.PayloadLaws.{payload_most}
-use Rattle.confirm.specs.payload.Sum.{payload_rooted}
+use Rattle.manifest.proofs.PayloadLaws.{payload_most}
+use Rattle.confirm.proofs.payload.Sum.{payload_rooted}
 use Rattle.compact.specs.copies.Copies.{copies_at, places_at, placed, file_at}
-use Rattle.compact.specs.copies.CopyLaws.{places_length}
-use Rattle.compact.specs.copies.PlaceLaws.{standing_inside}
-use Rattle.compact.specs.copies.FileLaws.{old_length, entries_fit, places_put, payload_back, file_put}
+use Rattle.compact.proofs.copies.CopyLaws.{places_length}
+use Rattle.compact.proofs.copies.PlaceLaws.{standing_inside}
+use Rattle.compact.proofs.copies.FileLaws.{old_length, entries_fit, places_put, payload_back, file_put}
 use borrow.Author.Rules.{rules}
 use Rattle.compact.proofs.copies.put_file.Statement.{statement}
 use Rattle.compact.proofs.copies.put_file.Tie as tie

@@ -3,7 +3,7 @@
 use Prim.Native.Nat.{◌+◌, ◌-◌, ◌*◌, ◌≤◌}
 use native.Mathlib.Omega.{arith}
 use lib.ListN.{length}
-use Rattle.compact.specs.copies.PlaceLaws.{PlacedAt, placed_first, placed_next, placed_last}
+use Rattle.compact.proofs.copies.PlaceLaws.{PlacedAt, placed_first, placed_next, placed_last}
 use borrow.Author.Rules.{rules}
 use Rattle.compact.proofs.copies.put_places.Statement.{statement}
 use Rattle.compact.proofs.copies.put_places.Tie as tie

@@ -6,10 +6,10 @@ use native.Mathlib.Omega.{arith}
 use borrow.Author.Tests.{not-true, not-false}
 use lib.ListN.{length, get_or}
 use Rattle.octets.specs.Round.{round64}
-use Rattle.octets.specs.RoundLaws.{round64_lt}
+use Rattle.octets.proofs.RoundLaws.{round64_lt}
 use Rattle.segment.specs.Header.{length_at}
-use Rattle.opening.specs.Indexed.{EntryAt, entry_at}
-use Rattle.compact.specs.select.SelectLaws.{Selecting, select_first, select_last, select_entry, select_low, select_retired, select_manifest, select_damaged, select_next}
+use Rattle.opening.proofs.Indexed.{EntryAt, entry_at}
+use Rattle.compact.proofs.select.SelectLaws.{Selecting, select_first, select_last, select_entry, select_low, select_retired, select_manifest, select_damaged, select_next}
 use borrow.Author.Rules.{rules}
 use Rattle.compact.proofs.select.select.Statement.{statement}
 use Rattle.compact.proofs.select.select.Tie as tie

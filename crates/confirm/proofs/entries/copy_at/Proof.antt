@@ -1,6 +1,6 @@
 -- `confirm::entries::copy_at` meets its contract: a part of the buffer comes back with a part of the file at its front.
 -- Assumes nothing.
-use Rattle.confirm.specs.entries.Laid.{copied}
+use Rattle.confirm.proofs.entries.Laid.{copied}
 use borrow.Author.Rules.{rules}
 use Rattle.confirm.proofs.entries.copy_at.Statement.{statement}
 use Rattle.confirm.proofs.entries.copy_at.Tie as tie

@@ -1,7 +1,7 @@
 -- `confirm::entries::copy_words` meets its contract: two words of the file stand side by side in the buffer.
 -- Assumes nothing.
 use native.Mathlib.Omega.{arith}
-use Rattle.confirm.specs.entries.Laid.{words_copied}
+use Rattle.confirm.proofs.entries.Laid.{words_copied}
 use borrow.Author.Rules.{rules}
 use Rattle.confirm.proofs.entries.copy_words.Statement.{statement}
 use Rattle.confirm.proofs.entries.copy_words.Tie as tie

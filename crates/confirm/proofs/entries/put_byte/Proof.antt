@@ -1,6 +1,6 @@
 -- `confirm::entries::put_byte` meets its contract.
 -- Assumes nothing.
-use Rattle.confirm.specs.entries.Laid.{stored}
+use Rattle.confirm.proofs.entries.Laid.{stored}
 use borrow.Author.Rules.{rules}
 use Rattle.confirm.proofs.entries.put_byte.Statement.{statement}
 use Rattle.confirm.proofs.entries.put_byte.Tie as tie

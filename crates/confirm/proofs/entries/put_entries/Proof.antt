@@ -3,7 +3,7 @@
 use Prim.Native.Nat.{◌-◌}
 use native.Mathlib.Omega.{arith}
 use lib.ListN.{length}
-use Rattle.confirm.specs.entries.Laid.{EntriesPut, entries_first, entries_next, entries_last}
+use Rattle.confirm.proofs.entries.Laid.{EntriesPut, entries_first, entries_next, entries_last}
 use borrow.Author.Rules.{rules}
 use Rattle.confirm.proofs.entries.put_entries.Statement.{statement}
 use Rattle.confirm.proofs.entries.put_entries.Tie as tie

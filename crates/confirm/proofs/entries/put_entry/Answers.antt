@@ -1,7 +1,7 @@
 -- `confirm::entries::put_entry` meets its contract, field by field.
 -- Assumes nothing.
 use native.Mathlib.Omega.{arith}
-use Rattle.confirm.specs.entries.Laid.{entry_laid}
+use Rattle.confirm.proofs.entries.Laid.{entry_laid}
 use borrow.Author.Rules.{rules}
 use Rattle.confirm.proofs.entries.put_entry.Goals as goal
 

@@ -5,7 +5,7 @@ use mathlib.Core.Path.{sym}
 use native.Mathlib.Omega.{arith}
 use lib.ListN.{length}
 use lib.Seq.{length-take-le}
-use Rattle.confirm.specs.payload.Sum.{root_known, payload_summed}
+use Rattle.confirm.proofs.payload.Sum.{root_known, payload_summed}
 use borrow.Author.Rules.{rules}
 use Rattle.confirm.proofs.payload.payload_sum.Statement.{statement}
 use Rattle.confirm.proofs.payload.payload_sum.Tie as tie

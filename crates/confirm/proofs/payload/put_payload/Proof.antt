@@ -7,7 +7,7 @@ use lib.ListN.{length, length-take, length-drop}
 use Rattle.octets.specs.Round.{round64}
 use Rattle.manifest.specs.Sized.{record_by}
 use Rattle.manifest.specs.Payload.{payload_length}
-use Rattle.confirm.specs.entries.Laid.{head_laid, filled, payload_laid}
+use Rattle.confirm.proofs.entries.Laid.{head_laid, filled, payload_laid}
 use borrow.Author.Rules.{rules}
 use Rattle.confirm.proofs.payload.put_payload.Statement.{statement}
 use Rattle.confirm.proofs.payload.put_payload.Tie as tie

@@ -9,8 +9,8 @@ use lib.Seq.{length-take-le}
 use Rattle.octets.specs.Round.{round64}
 use Rattle.manifest.specs.Sized.{record_by}
 use Rattle.manifest.specs.Payload.{payload_length}
-use Rattle.confirm.specs.entries.Laid.{fields_laid}
-use Rattle.confirm.specs.payload.Sum.{root_laid}
+use Rattle.confirm.proofs.entries.Laid.{fields_laid}
+use Rattle.confirm.proofs.payload.Sum.{root_laid}
 use borrow.Author.Rules.{rules}
 use Rattle.confirm.proofs.payload.put_root.Statement.{statement}
 use Rattle.confirm.proofs.payload.put_root.Tie as tie

@@ -2,7 +2,7 @@
 -- Assumes nothing.
 use Prim.Native.Nat.{◌-◌}
 use native.Mathlib.Omega.{arith}
-use Rattle.confirm.specs.states.Steps.{StatesRead, read_first, read_next, read_last}
+use Rattle.confirm.proofs.states.Steps.{StatesRead, read_first, read_next, read_last}
 use borrow.Author.Rules.{rules}
 use Rattle.confirm.proofs.states.read_states.Statement.{statement}
 use Rattle.confirm.proofs.states.read_states.Tie as tie

@@ -7,7 +7,8 @@ use lib.Bits.{bit_xor}
 use lib.ListN.{length, get_or}
 use lib.Seq.{get_or-set_other}
 use borrow.Author.Rules.{rules}
-use Rattle.crc32c.specs.Span.{span, add_turn}
+use Rattle.crc32c.specs.Span.{span}
+use Rattle.crc32c.proofs.Span.{add_turn}
 use Rattle.crc32c.proofs.window.add.Statement.{statement}
 use Rattle.crc32c.proofs.window.add.Tie as tie
 

@@ -5,8 +5,8 @@ use mathlib.Core.Path.{◌≡◌, refl}
 use native.Mathlib.Omega.{arith}
 use lib.ListN.{length}
 use borrow.Author.Rules.{rules}
-use Rattle.crc32c.specs.Window.{Moved, moved_none, moved_next}
-use Rattle.crc32c.specs.Start.{moved}
+use Rattle.crc32c.proofs.WindowLaws.{Moved, moved_none, moved_next}
+use Rattle.crc32c.proofs.Start.{moved}
 use Rattle.crc32c.proofs.window.bring_down.Statement.{statement}
 use Rattle.crc32c.proofs.window.bring_down.Tie as tie
 

@@ -10,9 +10,10 @@ use lib.Bits.{bit_xor}
 use borrow.Author.Rules.{rules}
 use Rattle.crc32c.specs.Crc.{crc_from}
 use Rattle.crc32c.specs.Sparse.{far}
-use Rattle.crc32c.specs.Span.{zeros_at}
+use Rattle.crc32c.proofs.Span.{zeros_at}
 use Rattle.crc32c.specs.Window.{held}
-use Rattle.crc32c.specs.Start.{reach_of, size_of, started}
+use Rattle.crc32c.specs.Start.{reach_of, size_of}
+use Rattle.crc32c.proofs.Start.{started}
 use Rattle.crc32c.proofs.window.by_far.Statement.{statement}
 use Rattle.crc32c.proofs.window.by_far.Tie as tie
 

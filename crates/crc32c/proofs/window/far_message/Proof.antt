@@ -5,7 +5,8 @@ use mathlib.Core.List.{List}
 use mathlib.Core.Path.{ap, ◌∙◌}
 use borrow.Author.Rules.{rules}
 use Rattle.crc32c.specs.Sparse.{sum}
-use Rattle.crc32c.specs.Span.{span, span_none, Leaves, added, left_by}
+use Rattle.crc32c.specs.Span.{span}
+use Rattle.crc32c.proofs.Span.{span_none, Leaves, added, left_by}
 use Rattle.crc32c.specs.Window.{held}
 use Rattle.crc32c.proofs.window.far_message.Statement.{statement}
 use Rattle.crc32c.proofs.window.far_message.Tie as tie

@@ -10,7 +10,8 @@ use lib.ListN.{get_or}
 use Rattle.crc32c.specs.Crc.{crc_from}
 use Rattle.crc32c.specs.Sparse.{near}
 use Rattle.crc32c.specs.Window.{held}
-use Rattle.crc32c.specs.Start.{reach_of, size_of, started, cleared}
+use Rattle.crc32c.specs.Start.{reach_of, size_of}
+use Rattle.crc32c.proofs.Start.{started, cleared}
 use borrow.Author.Rules.{rules}
 use Rattle.crc32c.proofs.window.near_in.Statement.{statement}
 use Rattle.crc32c.proofs.window.near_in.Tie as tie

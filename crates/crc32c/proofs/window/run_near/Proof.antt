@@ -6,10 +6,10 @@ use native.Mathlib.Omega.{arith}
 use lib.ListN.{length, get_or, drop}
 use borrow.Author.Rules.{rules}
 use Rattle.crc32c.specs.Crc.{crc_from}
-use Rattle.crc32c.specs.Words.{crc_from_end}
+use Rattle.crc32c.proofs.Words.{crc_from_end}
 use Rattle.crc32c.specs.Sparse.{near}
 use Rattle.crc32c.specs.Window.{held}
-use Rattle.crc32c.specs.Start.{near_turn}
+use Rattle.crc32c.proofs.Start.{near_turn}
 use Rattle.crc32c.proofs.window.run_near.Statement.{statement}
 use Rattle.crc32c.proofs.window.run_near.Tie as tie
 

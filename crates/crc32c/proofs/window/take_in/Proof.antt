@@ -6,7 +6,8 @@ use native.Mathlib.Omega.{arith}
 use lib.ListN.{length, drop}
 use borrow.Author.Rules.{rules}
 use Rattle.crc32c.specs.Crc.{crc_from}
-use Rattle.crc32c.specs.Window.{held, part_turn, part_last}
+use Rattle.crc32c.specs.Window.{held}
+use Rattle.crc32c.proofs.WindowLaws.{part_turn, part_last}
 use Rattle.crc32c.specs.Start.{reach_of, size_of}
 use Rattle.crc32c.proofs.window.take_in.Statement.{statement}
 use Rattle.crc32c.proofs.window.take_in.Tie as tie

@@ -1,8 +1,8 @@
 -- `idmap_read::decode::decode` meets its contract, by the map's head.
 -- Assumes nothing.
 use native.Mathlib.Omega.{arith}
-use Rattle.idmap.specs.DecodeLaws.{broken}
-use Rattle.idmap_read.specs.decode.Head.{head_short, head_count, head_raw, head_raw_interval, head_delta, head_delta_interval, head_other}
+use Rattle.idmap.proofs.DecodeLaws.{broken}
+use Rattle.idmap_read.proofs.decode.Head.{head_short, head_count, head_raw, head_raw_interval, head_delta, head_delta_interval, head_other}
 use borrow.Author.Rules.{rules}
 use Rattle.idmap_read.proofs.decode.decode.Statement.{statement}
 use Rattle.idmap_read.proofs.decode.decode.Tie as tie

@@ -5,7 +5,7 @@ use mathlib.Core.Path.{◌≡◌, refl, sym, ◌∙◌}
 use native.Mathlib.Omega.{arith}
 use lib.ListN.{length}
 use borrow.Author.Tests.{not-true, not-false}
-use Rattle.idmap.specs.DecodeLaws.{RawAt, raw_first, raw_next, raw_stop, raw_last, raw_short, raw_room, broken, whole}
+use Rattle.idmap.proofs.DecodeLaws.{RawAt, raw_first, raw_next, raw_stop, raw_last, raw_short, raw_room, broken, whole}
 use borrow.Author.Rules.{rules}
 use Rattle.idmap_read.proofs.decode.decode_raw.Statement.{statement}
 use Rattle.idmap_read.proofs.decode.decode_raw.Tie as tie

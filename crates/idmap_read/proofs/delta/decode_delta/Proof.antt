@@ -8,9 +8,9 @@ use native.Mathlib.Omega.{arith}
 use lib.ListN.{length, length-set}
 use Rattle.answers.specs.limits.Limits.{max_vectors}
 use Rattle.idmap.specs.Decode.{groups}
-use Rattle.idmap.specs.DecodeLaws.{broken, broken_by, whole}
-use Rattle.idmap.specs.DeltaLaws.{DeltaAt, delta_first, delta_restart, delta_last, delta_short, delta_room, groups_few}
-use Rattle.idmap_read.specs.delta.Next.{GroupAt, first_refused, first_next, inside_refused, inside_next}
+use Rattle.idmap.proofs.DecodeLaws.{broken, broken_by, whole}
+use Rattle.idmap.proofs.DeltaLaws.{DeltaAt, delta_first, delta_restart, delta_last, delta_short, delta_room, groups_few}
+use Rattle.idmap_read.proofs.delta.Next.{GroupAt, first_refused, first_next, inside_refused, inside_next}
 use borrow.Author.Rules.{rules}
 use Rattle.idmap_read.proofs.delta.decode_delta.Statement.{statement}
 use Rattle.idmap_read.proofs.delta.decode_delta.Tie as tie

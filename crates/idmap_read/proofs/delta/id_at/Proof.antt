@@ -1,7 +1,7 @@
 -- `idmap_read::delta::id_at` meets its contract, by its ways out.
 -- Assumes nothing.
 use mathlib.Core.Path.{sym, ◌∙◌}
-use Rattle.idmap_read.specs.delta.Next.{at_bad, at_refused, at_id}
+use Rattle.idmap_read.proofs.delta.Next.{at_bad, at_refused, at_id}
 use borrow.Author.Rules.{rules}
 use Rattle.idmap_read.proofs.delta.id_at.Statement.{statement}
 use Rattle.idmap_read.proofs.delta.id_at.Tie as tie

@@ -2,8 +2,8 @@
 -- Assumes nothing.
 use mathlib.Core.Path.{◌≡◌, sym, ◌∙◌}
 use native.Mathlib.Omega.{arith}
-use Rattle.idmap.specs.DecodeLaws.{low_some}
-use Rattle.idmap_read.specs.delta.Next.{next_place, next_start, next_low, next_none, next_over, next_sum}
+use Rattle.idmap.proofs.DecodeLaws.{low_some}
+use Rattle.idmap_read.proofs.delta.Next.{next_place, next_start, next_low, next_none, next_over, next_sum}
 use borrow.Author.Rules.{rules}
 use Rattle.idmap_read.proofs.delta.next_id.Statement.{statement}
 use Rattle.idmap_read.proofs.delta.next_id.Tie as tie

@@ -1,7 +1,7 @@
 -- `idmap_write::encode::delta_len` meets its contract, by its ways out.
 -- Assumes nothing.
 use native.Mathlib.Omega.{arith}
-use Rattle.idmap_write.specs.encode.Put.{begins_len, differs_len, one_byte, two_bytes}
+use Rattle.idmap_write.proofs.encode.Put.{begins_len, differs_len, one_byte, two_bytes}
 use borrow.Author.Rules.{rules}
 use Rattle.idmap_write.proofs.encode.delta_len.Statement.{statement}
 use Rattle.idmap_write.proofs.encode.delta_len.Tie as tie

@@ -3,8 +3,8 @@
 use Prim.Native.Nat.{◌-◌}
 use native.Mathlib.Omega.{arith}
 use lib.ListN.{length}
-use Rattle.idmap.specs.EncodeLaws.{ids_first, ids_above}
-use Rattle.idmap_write.specs.encode.Put.{LenAt, len_first, len_next, len_last}
+use Rattle.idmap.proofs.EncodeLaws.{ids_first, ids_above}
+use Rattle.idmap_write.proofs.encode.Put.{LenAt, len_first, len_next, len_last}
 use borrow.Author.Rules.{rules}
 use Rattle.idmap_write.proofs.encode.deltas_len.Statement.{statement}
 use Rattle.idmap_write.proofs.encode.deltas_len.Tie as tie

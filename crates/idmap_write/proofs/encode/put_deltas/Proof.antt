@@ -4,8 +4,8 @@ use Prim.Native.Nat.{◌-◌}
 use mathlib.Core.Path.{◌∙◌}
 use native.Mathlib.Omega.{arith}
 use lib.ListN.{length}
-use Rattle.idmap.specs.EncodeLaws.{ids_first, ids_above}
-use Rattle.idmap_write.specs.encode.Put.{PutAt, put_first, put_offs, put_vars, put_behind, put_next, put_last}
+use Rattle.idmap.proofs.EncodeLaws.{ids_first, ids_above}
+use Rattle.idmap_write.proofs.encode.Put.{PutAt, put_first, put_offs, put_vars, put_behind, put_next, put_last}
 use borrow.Author.Rules.{rules}
 use Rattle.idmap_write.proofs.encode.put_deltas.Statement.{statement}
 use Rattle.idmap_write.proofs.encode.put_deltas.Tie as tie

@@ -3,7 +3,7 @@
 use native.Mathlib.Omega.{arith}
 use mathlib.Core.Path.{◌∙◌}
 use lib.ListN.{length-set}
-use Rattle.idmap_write.specs.encode.Put.{head_laid}
+use Rattle.idmap_write.proofs.encode.Put.{head_laid}
 use borrow.Author.Rules.{rules}
 use Rattle.idmap_write.proofs.encode.put_head.Statement.{statement}
 use Rattle.idmap_write.proofs.encode.put_head.Tie as tie

@@ -3,7 +3,7 @@
 use Prim.Native.Nat.{◌-◌}
 use native.Mathlib.Omega.{arith}
 use lib.ListN.{length}
-use Rattle.idmap_write.specs.encode.Put.{RawPut, raw_first, raw_next, raw_last}
+use Rattle.idmap_write.proofs.encode.Put.{RawPut, raw_first, raw_next, raw_last}
 use borrow.Author.Rules.{rules}
 use Rattle.idmap_write.proofs.encode.put_raw.Statement.{statement}
 use Rattle.idmap_write.proofs.encode.put_raw.Tie as tie

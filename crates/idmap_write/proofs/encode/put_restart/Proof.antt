@@ -4,8 +4,8 @@ use Prim.Native.Nat.{suc, ◌-◌}
 use mathlib.Core.Path.{◌≡◌, refl, sym}
 use native.Mathlib.Nat.{add-zero}
 use native.Mathlib.Omega.{arith}
-use Rattle.octets.specs.OverLaws.{over_none}
-use Rattle.octets.specs.le.Laws.{length_le_bytes}
+use Rattle.octets.proofs.OverLaws.{over_none}
+use Rattle.octets.proofs.le.Laws.{length_le_bytes}
 use Rattle.idmap.specs.Encode.{restart_of}
 use borrow.Author.Rules.{rules}
 use Rattle.idmap_write.proofs.encode.put_restart.Statement.{statement}

@@ -1,6 +1,6 @@
 -- `idmap_write::refusal::interval_held` meets its contract.
 -- Assumes nothing.
-use Rattle.idmap_write.specs.refusal.RefusalLaws.{held_raw, held_delta, held_not}
+use Rattle.idmap_write.proofs.refusal.RefusalLaws.{held_raw, held_delta, held_not}
 use Rattle.idmap_write.proofs.refusal.interval_held.Statement.{statement}
 use Rattle.idmap_write.proofs.refusal.interval_held.Tie as tie
 

@@ -3,7 +3,7 @@
 use mathlib.Core.Path.{sym, ◌∙◌}
 use native.Mathlib.Omega.{arith}
 use borrow.Author.Tests.{not-true, not-false}
-use Rattle.idmap_write.specs.refusal.RefusalLaws.{bad_none, bad_many, bad_interval, bad_ids, bad_not}
+use Rattle.idmap_write.proofs.refusal.RefusalLaws.{bad_none, bad_many, bad_interval, bad_ids, bad_not}
 use borrow.Author.Rules.{rules}
 use Rattle.idmap_write.proofs.refusal.refusal.Statement.{statement}
 use Rattle.idmap_write.proofs.refusal.refusal.Tie as tie

@@ -5,7 +5,7 @@ use mathlib.Core.Path.{sym, ◌∙◌}
 use native.Mathlib.Omega.{arith}
 use lib.ListN.{length}
 use borrow.Author.Tests.{not-true, not-false}
-use Rattle.idmap_write.specs.refusal.RefusalLaws.{RiseAt, rise_first, rise_next, rise_stop, rise_last}
+use Rattle.idmap_write.proofs.refusal.RefusalLaws.{RiseAt, rise_first, rise_next, rise_stop, rise_last}
 use borrow.Author.Rules.{rules}
 use Rattle.idmap_write.proofs.refusal.rising.Statement.{statement}
 use Rattle.idmap_write.proofs.refusal.rising.Tie as tie

@@ -1,10 +1,10 @@
 -- `listing::entries::put_entries` meets its contract, by how many entries are written.
 -- Assumes nothing.
-use Rattle.opening.specs.Indexed.{EntryAt, entry_at}
+use Rattle.opening.proofs.Indexed.{EntryAt, entry_at}
 use Prim.Native.Nat.{◌-◌}
 use native.Mathlib.Omega.{arith}
-use Rattle.octets.specs.text.Written.{same_room}
-use Rattle.listing.specs.entries.Entries.{EntriesAt, entries_first, entries_next, entries_last}
+use Rattle.octets.proofs.text.Written.{same_room}
+use Rattle.listing.proofs.entries.Entries.{EntriesAt, entries_first, entries_next, entries_last}
 use Rattle.listing.proofs.entries.put_entries.Statement.{statement}
 use Rattle.listing.proofs.entries.put_entries.Tie as tie
 

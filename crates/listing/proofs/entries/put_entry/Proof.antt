@@ -3,7 +3,7 @@
 use mathlib.Core.Path.{refl}
 use native.Mathlib.Omega.{arith}
 use Rattle.octets.specs.text.Text.{ascii}
-use Rattle.listing.specs.line.Lines.{state_live, state_retired}
+use Rattle.listing.proofs.line.Lines.{state_live, state_retired}
 use Rattle.listing.proofs.entries.put_entry.Statement.{statement}
 use Rattle.listing.proofs.entries.put_entry.Tie as tie
 

@@ -3,7 +3,7 @@
 use mathlib.Core.Path.{refl}
 use native.Mathlib.Omega.{arith}
 use Rattle.octets.specs.text.Text.{ascii}
-use Rattle.listing.specs.line.Lines.{check_ok, check_bad}
+use Rattle.listing.proofs.line.Lines.{check_ok, check_bad}
 use Rattle.listing.proofs.line.put_check.Statement.{statement}
 use Rattle.listing.proofs.line.put_check.Tie as tie
 

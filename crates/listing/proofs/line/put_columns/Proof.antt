@@ -3,7 +3,7 @@
 use mathlib.Core.Path.{refl, ◌∙◌}
 use native.Mathlib.Omega.{arith}
 use Rattle.octets.specs.text.Text.{ascii}
-use Rattle.octets.specs.text.Written.{then}
+use Rattle.octets.proofs.text.Written.{then}
 use Rattle.listing.proofs.line.put_columns.Statement.{statement}
 use Rattle.listing.proofs.line.put_columns.Tie as tie
 

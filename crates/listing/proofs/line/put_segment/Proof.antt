@@ -3,7 +3,7 @@
 use Prim.Native.Nat.{◌+◌}
 use mathlib.Core.Path.{refl, ◌∙◌}
 use native.Mathlib.Omega.{arith}
-use Rattle.listing.specs.line.Lines.{line_written}
+use Rattle.listing.proofs.line.Lines.{line_written}
 use Rattle.listing.proofs.line.put_segment.Statement.{statement}
 use Rattle.listing.proofs.line.put_segment.Tie as tie
 

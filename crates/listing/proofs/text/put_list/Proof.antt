@@ -4,7 +4,7 @@ use Prim.Native.Nat.{◌≤◌}
 use mathlib.Core.Path.{refl, ◌∙◌}
 use native.Mathlib.Omega.{arith}
 use Rattle.octets.specs.text.Text.{ascii}
-use Rattle.listing.specs.text.Whole.{m, list_room, list_written}
+use Rattle.listing.proofs.text.Whole.{m, list_room, list_written}
 use Rattle.listing.proofs.text.put_list.Statement.{statement}
 use Rattle.listing.proofs.text.put_list.Tie as tie
 

@@ -2,9 +2,9 @@
 -- Assumes nothing.
 use mathlib.Core.Path.{refl, sym, ◌∙◌}
 use native.Mathlib.Omega.{arith}
-use Rattle.opening.specs.FileManifest.{manifest_at}
+use Rattle.opening.proofs.FileManifestLaws.{manifest_at}
 use Rattle.octets.specs.text.Text.{ascii}
-use Rattle.listing.specs.text.Whole.{list_long, list_refused, found_written, refused_written}
+use Rattle.listing.proofs.text.Whole.{list_long, list_refused, found_written, refused_written}
 use borrow.Author.Rules.{rules}
 use Rattle.listing.proofs.text.put_text.Statement.{statement}
 use Rattle.listing.proofs.text.put_text.Tie as tie

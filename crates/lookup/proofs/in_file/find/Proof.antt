@@ -2,9 +2,9 @@
 -- Assumes nothing.
 use mathlib.Core.Path.{sym, ◌∙◌}
 use native.Mathlib.Omega.{arith}
-use Rattle.opening.specs.Indexed.{opened_at}
-use Rattle.opening.specs.FileManifest.{manifest_at}
-use Rattle.lookup.specs.in_segment.Located.{located_refused}
+use Rattle.opening.proofs.Indexed.{opened_at}
+use Rattle.opening.proofs.FileManifestLaws.{manifest_at}
+use Rattle.lookup.proofs.in_segment.LocatedLaws.{located_refused}
 use borrow.Author.Rules.{rules}
 use Rattle.lookup.proofs.in_file.find.Statement.{statement}
 use Rattle.lookup.proofs.in_file.find.Tie as tie

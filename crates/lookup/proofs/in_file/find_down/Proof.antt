@@ -1,11 +1,11 @@
 -- `lookup::in_file::find_down` meets its contract, by where the search through the directory stands.
 -- Assumes nothing.
-use Rattle.opening.specs.Indexed.{EntryAt, entry_at}
+use Rattle.opening.proofs.Indexed.{EntryAt, entry_at}
 use Prim.Native.Nat.{ℕ, ◌-◌}
 use mathlib.Core.Path.{◌≡◌, sym, ◌∙◌}
 use native.Mathlib.Omega.{arith}
 use lib.ListN.{length}
-use Rattle.lookup.specs.in_segment.Located.{SegmentsPassed, search_first, search_last, search_retired, search_other, search_on, search_stop}
+use Rattle.lookup.proofs.in_segment.LocatedLaws.{SegmentsPassed, search_first, search_last, search_retired, search_other, search_on, search_stop}
 use borrow.Author.Rules.{rules}
 use Rattle.lookup.proofs.in_file.find_down.Statement.{statement}
 use Rattle.lookup.proofs.in_file.find_down.Tie as tie

@@ -3,7 +3,7 @@
 use mathlib.Core.Path.{sym, ◌∙◌}
 use native.Mathlib.Omega.{arith}
 use borrow.Author.Tests.{not-true, not-false}
-use Rattle.lookup.specs.in_segment.Located.{segment_torn, segment_bad, segment_missing, segment_found, sum_missing, sum_found}
+use Rattle.lookup.proofs.in_segment.LocatedLaws.{segment_torn, segment_bad, segment_missing, segment_found, sum_missing, sum_found}
 use borrow.Author.Rules.{rules}
 use Rattle.lookup.proofs.in_segment.find.Statement.{statement}
 use Rattle.lookup.proofs.in_segment.find.Tie as tie

@@ -1,6 +1,6 @@
 -- `lookup::payload::number_of` meets its contract.
 -- Assumes nothing.
-use Rattle.reading.specs.PartLaws.{number_at, number_not}
+use Rattle.reading.proofs.PartLaws.{number_at, number_not}
 use borrow.Author.Rules.{rules}
 use Rattle.lookup.proofs.payload.number_of.Statement.{statement}
 use Rattle.lookup.proofs.payload.number_of.Tie as tie

@@ -5,7 +5,7 @@ use mathlib.Core.Path.{refl, ap}
 use native.Mathlib.Omega.{arith}
 use native.Mathlib.Nat.{add_comm, add-sub_cancel_left}
 use lib.ListN.{take, drop}
-use Rattle.reading.specs.PartLaws.{hands_at, hands_outside, hands_nothing}
+use Rattle.reading.proofs.PartLaws.{hands_at, hands_outside, hands_nothing}
 use borrow.Author.Rules.{rules}
 use Rattle.lookup.proofs.payload.part_at.Statement.{statement}
 use Rattle.lookup.proofs.payload.part_at.Tie as tie

@@ -3,7 +3,8 @@
 use Rattle.std.proofs.Common.{ap, subst, ◌∙◌}
 use Rattle.reading.specs.Answers.{part_in}
 use Rattle.reading.specs.Part.{place_of}
-use Rattle.reading.specs.PartLaws.{place_number, Hands, number_same, hands_part}
+use Rattle.reading.specs.PartLaws.{place_number, Hands}
+use Rattle.reading.proofs.PartLaws.{number_same, hands_part}
 use Rattle.lookup.proofs.payload.payload.Goals as goal
 
 pub returns : goal.returns

@@ -1,11 +1,11 @@
 -- `lookup::place::find_in` meets its contract, by where the search through the directory stands.
 -- Assumes nothing.
-use Rattle.opening.specs.Indexed.{EntryAt, entry_at}
+use Rattle.opening.proofs.Indexed.{EntryAt, entry_at}
 use Prim.Native.Nat.{◌-◌}
 use mathlib.Core.Path.{sym, ◌∙◌}
 use native.Mathlib.Omega.{arith}
 use borrow.Author.Tests.{not-true, not-false}
-use Rattle.lookup.specs.place.Find.{FindAt, find_first, find_last, find_other, find_retired, find_reserved, find_torn, find_whole}
+use Rattle.lookup.proofs.place.Find.{FindAt, find_first, find_last, find_other, find_retired, find_reserved, find_torn, find_whole}
 use borrow.Author.Rules.{rules}
 use Rattle.lookup.proofs.place.find_in.Statement.{statement}
 use Rattle.lookup.proofs.place.find_in.Tie as tie

@@ -2,9 +2,9 @@
 -- Assumes nothing.
 use mathlib.Core.Path.{sym, ◌∙◌}
 use native.Mathlib.Omega.{arith}
-use Rattle.opening.specs.Indexed.{opened_at}
-use Rattle.opening.specs.FileManifest.{manifest_at}
-use Rattle.lookup.specs.place.Find.{place_refused}
+use Rattle.opening.proofs.Indexed.{opened_at}
+use Rattle.opening.proofs.FileManifestLaws.{manifest_at}
+use Rattle.lookup.proofs.place.Find.{place_refused}
 use borrow.Author.Rules.{rules}
 use Rattle.lookup.proofs.place.payload_place.Statement.{statement}
 use Rattle.lookup.proofs.place.payload_place.Tie as tie

@@ -1,7 +1,7 @@
 -- `lookup::vector::component` meets its contract.
 -- Assumes nothing.
-use Rattle.reading.specs.ComponentLaws.{kind_number}
-use Rattle.lookup.specs.vector.Value.{lies_not, value_room_at, component_is, component_not}
+use Rattle.reading.proofs.ComponentLaws.{kind_number}
+use Rattle.lookup.proofs.vector.Value.{lies_not, value_room_at, component_is, component_not}
 use borrow.Author.Rules.{rules}
 use Rattle.lookup.proofs.vector.component.Statement.{statement}
 use Rattle.lookup.proofs.vector.component.Tie as tie

@@ -1,7 +1,7 @@
 -- `lookup::vector::component_bits` meets its contract.
 -- Assumes nothing.
 use native.Mathlib.Omega.{arith}
-use Rattle.lookup.specs.vector.Value.{lies_not, value_room_at, four_wide, bits_float, bits_byte, component_not}
+use Rattle.lookup.proofs.vector.Value.{lies_not, value_room_at, four_wide, bits_float, bits_byte, component_not}
 use borrow.Author.Rules.{rules}
 use Rattle.lookup.proofs.vector.component_bits.Statement.{statement}
 use Rattle.lookup.proofs.vector.component_bits.Tie as tie

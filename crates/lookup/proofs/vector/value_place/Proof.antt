@@ -4,7 +4,7 @@ use Prim.Native.Nat.{ℕ, ◌+◌, ◌*◌, ◌≤◌, ◌<◌}
 use lib.ListN.{length}
 use mathlib.Core.Path.{sym, ◌∙◌}
 use native.Mathlib.Omega.{arith}
-use Rattle.lookup.specs.vector.Value.{value_refused, value_nowhere, value_past, value_inside, value_here}
+use Rattle.lookup.proofs.vector.Value.{value_refused, value_nowhere, value_past, value_inside, value_here}
 use borrow.Author.Rules.{rules}
 use Rattle.lookup.proofs.vector.value_place.Statement.{statement}
 use Rattle.lookup.proofs.vector.value_place.Tie as tie

@@ -2,7 +2,7 @@
 -- Assumes nothing.
 use mathlib.Core.Path.{sym, ◌∙◌}
 use native.Mathlib.Omega.{arith}
-use Rattle.lookup.specs.vector.Value.{vector_refused, vector_nowhere, part_room, part_bounds, vector_short, vector_read}
+use Rattle.lookup.proofs.vector.Value.{vector_refused, vector_nowhere, part_room, part_bounds, vector_short, vector_read}
 use borrow.Author.Rules.{rules}
 use Rattle.lookup.proofs.vector.vector.Statement.{statement}
 use Rattle.lookup.proofs.vector.vector.Tie as tie

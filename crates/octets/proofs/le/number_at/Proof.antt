@@ -4,7 +4,7 @@ use Prim.Native.Nat.{◌+◌, ◌-◌}
 use native.Mathlib.Omega.{arith}
 use lib.Dec.{lit<}
 use mathlib.Core.Path.{refl}
-use Rattle.octets.specs.le.Laws.{Reads, reads_first, reads_next, reads_fits, reads_last}
+use Rattle.octets.proofs.le.Laws.{Reads, reads_first, reads_next, reads_fits, reads_last}
 use borrow.Author.Rules.{rules}
 use Rattle.octets.proofs.le.number_at.Statement.{statement}
 use Rattle.octets.proofs.le.number_at.Tie as tie

@@ -2,7 +2,7 @@
 -- Assumes nothing.
 use Prim.Native.Nat.{◌-◌}
 use native.Mathlib.Omega.{arith}
-use Rattle.octets.specs.le.Laws.{Writes, writes_first, writes_next, writes_long, writes_last}
+use Rattle.octets.proofs.le.Laws.{Writes, writes_first, writes_next, writes_long, writes_last}
 use borrow.Author.Rules.{rules}
 use Rattle.octets.proofs.le.put.Statement.{statement}
 use Rattle.octets.proofs.le.put.Tie as tie

@@ -1,6 +1,6 @@
 -- `octets::numbers::follows` meets its contract, by its ways out.
 -- Assumes nothing.
-use Rattle.octets.specs.numbers.NumbersLaws.{above_first, above_next}
+use Rattle.octets.proofs.numbers.NumbersLaws.{above_first, above_next}
 use Rattle.octets.proofs.numbers.follows.Statement.{statement}
 use Rattle.octets.proofs.numbers.follows.Tie as tie
 

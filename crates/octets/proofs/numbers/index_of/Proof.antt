@@ -5,7 +5,7 @@ use mathlib.Core.Path.{sym, ◌∙◌}
 use native.Mathlib.Omega.{arith}
 use lib.ListN.{take}
 use lib.Seq.{length-take-le, get_or-take}
-use Rattle.octets.specs.numbers.NumbersLaws.{IndexAt, index_first, index_here, index_next, index_last, index_place, index_nowhere}
+use Rattle.octets.proofs.numbers.NumbersLaws.{IndexAt, index_first, index_here, index_next, index_last, index_place, index_nowhere}
 use borrow.Author.Rules.{rules}
 use Rattle.octets.proofs.numbers.index_of.Statement.{statement}
 use Rattle.octets.proofs.numbers.index_of.Tie as tie

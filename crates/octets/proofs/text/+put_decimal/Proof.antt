@@ -2,7 +2,7 @@
 -- Assumes nothing.
 use native.Mathlib.Omega.{arith}
 use lib.ListN.{length-set}
-use Rattle.octets.specs.text.Written.{digit_first, digit_next, digits_room, first_room}
+use Rattle.octets.proofs.text.Written.{digit_first, digit_next, digits_room, first_room}
 use Prim.Native.Nat.{ℕ, ◌<◌}
 use borrow.Fn.Kinds.{In}
 use borrow.Fn.PlainCycle.{Measures, is, falls, and}

@@ -2,7 +2,7 @@
 -- Assumes nothing.
 use mathlib.Core.Path.{refl}
 use native.Mathlib.Omega.{arith}
-use Rattle.octets.specs.Parts.{back}
+use Rattle.octets.proofs.Parts.{back}
 use borrow.Author.Rules.{rules}
 use Rattle.octets.proofs.text.put_bytes.Statement.{statement}
 use Rattle.octets.proofs.text.put_bytes.Tie as tie

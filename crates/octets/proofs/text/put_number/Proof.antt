@@ -1,8 +1,8 @@
 -- `octets::text::put_number` meets its contract: three pieces, one right behind the other.
 -- Assumes nothing.
 use native.Mathlib.Omega.{arith}
-use Rattle.octets.specs.text.TextLaws.{decimal_u64}
-use Rattle.octets.specs.text.Written.{then}
+use Rattle.octets.proofs.text.TextLaws.{decimal_u64}
+use Rattle.octets.proofs.text.Written.{then}
 use borrow.Author.Rules.{rules}
 use Rattle.octets.proofs.text.put_number.Statement.{statement}
 use Rattle.octets.proofs.text.put_number.Tie as tie

@@ -1,12 +1,13 @@
 -- `opening::directory::entry` meets its contract, by its ways out.
 -- Assumes nothing.
 use Prim.Native.Nat.{◌<◌}
-use Rattle.opening.specs.Indexed.{ManifestAt, EntryAt, opened_at, entry_at}
-use Rattle.opening.specs.FileManifest.{manifest_at}
+use Rattle.opening.specs.Indexed.{ManifestAt}
+use Rattle.opening.proofs.Indexed.{EntryAt, opened_at, entry_at}
+use Rattle.opening.proofs.FileManifestLaws.{manifest_at}
 use mathlib.Core.Path.{sym, ◌∙◌}
 use native.Mathlib.Omega.{arith}
-use Rattle.opening.specs.directory.Entry.{entry_refused}
-use Rattle.opening.specs.directory.EntryLaws.{entry_past, entry_is}
+use Rattle.opening.proofs.directory.EntryLemmas.{entry_refused}
+use Rattle.opening.proofs.directory.EntryLaws.{entry_past, entry_is}
 use borrow.Author.Rules.{rules}
 use Rattle.opening.proofs.directory.entry.Statement.{statement}
 use Rattle.opening.proofs.directory.entry.Tie as tie

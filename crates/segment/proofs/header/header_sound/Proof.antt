@@ -9,7 +9,7 @@ use borrow.Author.Tests.{not-true, not-false, ne_eqb}
 use Rattle.segment.specs.Header.{flags_held}
 use Rattle.octets.specs.numbers.Numbers.{least_next}
 use Rattle.segment.specs.Step.{least_id}
-use Rattle.segment.specs.HeaderLaws.{head_fails, head_holds}
+use Rattle.segment.proofs.HeaderLaws.{head_fails, head_holds}
 use borrow.Author.Rules.{rules}
 use Rattle.segment.proofs.header.header_sound.Statement.{statement}
 use Rattle.segment.proofs.header.header_sound.Tie as tie

@@ -4,7 +4,8 @@ use Prim.Native.Nat.{◌-◌}
 use mathlib.Core.Path.{◌≡◌, refl, sym, ◌∙◌}
 use native.Mathlib.Omega.{arith}
 use lib.ListN.{length}
-use Rattle.segment.specs.index.Offsets.{most, CollectAt, collect_first, collect_next, collect_stop, collect_full}
+use Rattle.segment.specs.index.Offsets.{most}
+use Rattle.segment.proofs.index.Offsets.{CollectAt, collect_first, collect_next, collect_stop, collect_full}
 use borrow.Author.Rules.{rules}
 use Rattle.segment.proofs.index.collect.Statement.{statement}
 use Rattle.segment.proofs.index.collect.Tie as tie

@@ -3,8 +3,8 @@
 use mathlib.Core.Path.{sym, ◌∙◌}
 use native.Mathlib.Omega.{arith}
 use borrow.Author.Tests.{not-true, not-false}
-use Rattle.octets.specs.RoundLaws.{round64_ge}
-use Rattle.segment.specs.Step.{step_short, step_cut, step_unsound, step_padding, step_sound}
+use Rattle.octets.proofs.RoundLaws.{round64_ge}
+use Rattle.segment.proofs.StepLaws.{step_short, step_cut, step_unsound, step_padding, step_sound}
 use borrow.Author.Rules.{rules}
 use Rattle.segment.proofs.link.link_at.Statement.{statement}
 use Rattle.segment.proofs.link.link_at.Tie as tie

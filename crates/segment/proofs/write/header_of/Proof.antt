@@ -2,7 +2,7 @@
 -- Assumes nothing.
 use native.Mathlib.Omega.{arith}
 use lib.ListN.{length-set}
-use Rattle.segment.specs.write.Laid.{header_laid}
+use Rattle.segment.proofs.write.Laid.{header_laid}
 use borrow.Author.Rules.{rules}
 use Rattle.segment.proofs.write.header_of.Statement.{statement}
 use Rattle.segment.proofs.write.header_of.Tie as tie

@@ -2,9 +2,9 @@
 -- Assumes nothing.
 use native.Mathlib.Omega.{arith}
 use lib.ListN.{length, length-take, length-drop}
-use Rattle.octets.specs.RoundLaws.{round64_ge}
-use Rattle.segment.specs.HeaderLaws.{hash_of}
-use Rattle.segment.specs.write.Laid.{payload_laid, padding_laid, segment_size}
+use Rattle.octets.proofs.RoundLaws.{round64_ge}
+use Rattle.segment.proofs.HeaderLaws.{hash_of}
+use Rattle.segment.proofs.write.Laid.{payload_laid, padding_laid, segment_size}
 use borrow.Author.Rules.{rules}
 use Rattle.segment.proofs.write.put_segment.Statement.{statement}
 use Rattle.segment.proofs.write.put_segment.Tie as tie

@@ -2,7 +2,7 @@
 -- Assumes nothing.
 use Prim.Native.Nat.{◌≤◌}
 use native.Mathlib.Omega.{arith}
-use Rattle.varint.specs.Write.{WrittenSoFar, stands_first, stands_more, stands_last, last_length}
+use Rattle.varint.proofs.WriteLaws.{WrittenSoFar, stands_first, stands_more, stands_last, last_length}
 use borrow.Author.Rules.{rules}
 use Rattle.varint.proofs.write.encoded_len.Statement.{statement}
 use Rattle.varint.proofs.write.encoded_len.Tie as tie

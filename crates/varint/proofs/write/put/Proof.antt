@@ -4,9 +4,9 @@ use mathlib.Core.Path.{◌≡◌, refl, sym, ◌∙◌}
 use native.Mathlib.Omega.{arith}
 use lib.ListN.{length, take}
 use Rattle.octets.specs.Over.{over}
-use Rattle.octets.specs.OverLaws.{over_none}
+use Rattle.octets.proofs.OverLaws.{over_none}
 use Rattle.varint.specs.Varint.{varint_of}
-use Rattle.varint.specs.Write.{WrittenSoFar, stands_first, stands_byte, stands_more, stands_last, last_length, laid, all_laid}
+use Rattle.varint.proofs.WriteLaws.{WrittenSoFar, stands_first, stands_byte, stands_more, stands_last, last_length, laid, all_laid}
 use borrow.Author.Rules.{rules}
 use Rattle.varint.proofs.write.put.Statement.{statement}
 use Rattle.varint.proofs.write.put.Tie as tie

@@ -2,7 +2,7 @@
 -- Assumes nothing.
 use mathlib.Core.Path.{refl}
 use native.Mathlib.Omega.{arith}
-use Rattle.answers.specs.WriteLaws.{write_short, write_done}
+use Rattle.answers.proofs.WriteLaws.{write_short, write_done}
 use borrow.Author.Rules.{rules}
 use Rattle.varint.proofs.write.write.Statement.{statement}
 use Rattle.varint.proofs.write.write.Tie as tie

@@ -7,8 +7,8 @@ use mathlib.Core.List.{[]}
 use lib.Seq.{length-take-le}
 use lib.ListN.{length}
 use borrow.Author.Tests.{not-true, not-false}
-use Rattle.vecseg.specs.LineLaws.{width_most, columns_fit}
-use Rattle.vec_read.specs.block.Block.{columns_are, check_columns, check_broken, check_fits, check_end, check_checksum, check_padding, check_sound}
+use Rattle.vecseg.proofs.LineLaws.{width_most, columns_fit}
+use Rattle.vec_read.proofs.block.BlockLaws.{columns_are, check_columns, check_broken, check_fits, check_end, check_checksum, check_padding, check_sound}
 use borrow.Author.Rules.{rules}
 use Rattle.vec_read.proofs.block.check_block.Statement.{statement}
 use Rattle.vec_read.proofs.block.check_block.Tie as tie

@@ -2,8 +2,8 @@
 -- Assumes nothing.
 use mathlib.Core.Path.{◌∙◌}
 use native.Mathlib.Omega.{arith}
-use Rattle.octets.specs.RoundLaws.{round64_ge}
-use Rattle.vecseg.specs.BlockLaws.{filled_short, filled_there}
+use Rattle.octets.proofs.RoundLaws.{round64_ge}
+use Rattle.vecseg.proofs.BlockLaws.{filled_short, filled_there}
 use borrow.Author.Rules.{rules}
 use Rattle.vec_read.proofs.block.is_filled.Statement.{statement}
 use Rattle.vec_read.proofs.block.is_filled.Tie as tie

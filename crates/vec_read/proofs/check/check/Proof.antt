@@ -1,7 +1,7 @@
 -- `vec_read::check::check` meets its contract, by what the walk answers.
 -- Assumes nothing.
 use mathlib.Core.Path.{sym, ◌∙◌}
-use Rattle.vec_read.specs.walk.Walk.{was_bad, was_missing, was_at}
+use Rattle.vec_read.proofs.walk.WalkLaws.{was_bad, was_missing, was_at}
 use borrow.Author.Rules.{rules}
 use Rattle.vec_read.proofs.check.check.Statement.{statement}
 use Rattle.vec_read.proofs.check.check.Tie as tie

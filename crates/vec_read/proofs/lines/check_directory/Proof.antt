@@ -4,7 +4,7 @@ use mathlib.Core.Path.{sym, ◌∙◌}
 use native.Mathlib.Omega.{arith}
 use borrow.Author.Tests.{not-true, not-false}
 use Rattle.vecseg.specs.Payload.{block_count}
-use Rattle.vec_read.specs.lines.Directory.{directory_short, directory_many, directory_cut, directory_lines, directory_fill, directory_good}
+use Rattle.vec_read.proofs.lines.Directory.{directory_short, directory_many, directory_cut, directory_lines, directory_fill, directory_good}
 use borrow.Author.Rules.{rules}
 use Rattle.vec_read.proofs.lines.check_directory.Statement.{statement}
 use Rattle.vec_read.proofs.lines.check_directory.Tie as tie

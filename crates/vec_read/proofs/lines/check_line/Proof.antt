@@ -4,7 +4,7 @@ use Prim.Native.Nat.{◌+◌}
 use mathlib.Core.Path.{sym, ap, ◌∙◌}
 use native.Mathlib.Omega.{arith}
 use Rattle.vecseg.specs.Payload.{width}
-use Rattle.vecseg.specs.LineLaws.{line_is, line_count_none, line_count_over, line_dim_none, line_dim_over, line_dtype, line_good}
+use Rattle.vecseg.proofs.LineLaws.{line_is, line_count_none, line_count_over, line_dim_none, line_dim_over, line_dtype, line_good}
 use borrow.Author.Rules.{rules}
 use Rattle.vec_read.proofs.lines.check_line.Statement.{statement}
 use Rattle.vec_read.proofs.lines.check_line.Tie as tie

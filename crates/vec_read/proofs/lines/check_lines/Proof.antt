@@ -3,7 +3,7 @@
 use Prim.Native.Nat.{◌-◌}
 use mathlib.Core.Path.{sym, ◌∙◌}
 use native.Mathlib.Omega.{arith}
-use Rattle.vecseg.specs.LineLaws.{LinesAt, lines_first, lines_next, lines_stop, lines_last}
+use Rattle.vecseg.proofs.LineLaws.{LinesAt, lines_first, lines_next, lines_stop, lines_last}
 use borrow.Author.Rules.{rules}
 use Rattle.vec_read.proofs.lines.check_lines.Statement.{statement}
 use Rattle.vec_read.proofs.lines.check_lines.Tie as tie

@@ -5,7 +5,8 @@ use mathlib.Core.Path.{◌≡◌}
 use native.Mathlib.Omega.{arith}
 use lib.ListN.{length}
 use Rattle.vecseg.specs.Payload.{block_count}
-use Rattle.vec_read.specs.lines.Counts.{CountsTo, counts_none, counts_next, counts_last}
+use Rattle.vec_read.specs.lines.Counts.{CountsTo}
+use Rattle.vec_read.proofs.lines.Counts.{counts_none, counts_next, counts_last}
 use borrow.Author.Rules.{rules}
 use Rattle.vec_read.proofs.lines.largest_count.Statement.{statement}
 use Rattle.vec_read.proofs.lines.largest_count.Tie as tie

@@ -5,7 +5,7 @@ use mir.Syntax.{w8}
 use mir.Val.{to_z, of_z}
 use Rattle.vecseg.specs.Payload.{width}
 use Rattle.vecseg.specs.declared.Component.TheVariants.{Float, Signed}
-use Rattle.vec_read.specs.values.Component.{component_float, component_signed, component_unsigned}
+use Rattle.vec_read.proofs.values.Component.{component_float, component_signed, component_unsigned}
 use borrow.Author.Rules.{rules}
 use Rattle.vec_read.proofs.values.component_at.Statement.{statement}
 use Rattle.vec_read.proofs.values.component_at.Tie as tie

@@ -2,7 +2,7 @@
 -- Assumes nothing.
 use mathlib.Core.Path.{sym}
 use lib.Ieee.{of_bits, div}
-use Rattle.vec_read.specs.values.Bytes.{nan_above, no_nan}
+use Rattle.vec_read.proofs.values.Bytes.{nan_above, no_nan}
 use borrow.Author.Rules.{rules}
 use Rattle.vec_read.proofs.values.float_of.Statement.{statement}
 use Rattle.vec_read.proofs.values.float_of.Tie as tie

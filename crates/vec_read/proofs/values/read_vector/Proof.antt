@@ -5,8 +5,9 @@ use mathlib.Core.Path.{refl, sym, ap}
 use native.Mathlib.Omega.{arith}
 use lib.ListN.{length, drop, length-drop}
 use lib.Seq.{length-take-le}
-use Rattle.answers.specs.WriteLaws.{write_short, write_done}
-use Rattle.vec_read.specs.values.Vector.{Bounds, ValueRoom, value_room, all_room, VectorAt, vector_length, vector_first, vector_next, vector_last}
+use Rattle.answers.proofs.WriteLaws.{write_short, write_done}
+use Rattle.vec_read.specs.values.Vector.{Bounds}
+use Rattle.vec_read.proofs.values.Vector.{ValueRoom, value_room, all_room, VectorAt, vector_length, vector_first, vector_next, vector_last}
 use borrow.Author.Rules.{rules}
 use Rattle.vec_read.proofs.values.read_vector.Statement.{statement}
 use Rattle.vec_read.proofs.values.read_vector.Tie as tie

@@ -1,7 +1,7 @@
 -- `vec_read::values::signed_of` meets its contract, by what is computed at each byte.
 -- Assumes nothing.
 use native.Mathlib.Omega.{arith}
-use Rattle.vec_read.specs.values.Bytes.{low_is, less_fits, back_fits, back_is}
+use Rattle.vec_read.proofs.values.Bytes.{low_is, less_fits, back_fits, back_is}
 use borrow.Author.Rules.{rules}
 use Rattle.vec_read.proofs.values.signed_of.Statement.{statement}
 use Rattle.vec_read.proofs.values.signed_of.Tie as tie

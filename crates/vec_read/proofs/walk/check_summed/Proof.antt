@@ -1,7 +1,7 @@
 -- `vec_read::walk::check_summed` meets its contract, by what the walk answers.
 -- Assumes nothing.
 use mathlib.Core.Path.{sym, ◌∙◌}
-use Rattle.vec_read.specs.walk.Walk.{summed_bad, summed_sound, never_at}
+use Rattle.vec_read.proofs.walk.WalkLaws.{summed_bad, summed_sound, never_at}
 use borrow.Author.Rules.{rules}
 use Rattle.vec_read.proofs.walk.check_summed.Statement.{statement}
 use Rattle.vec_read.proofs.walk.check_summed.Tie as tie

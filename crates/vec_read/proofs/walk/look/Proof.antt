@@ -1,7 +1,7 @@
 -- `vec_read::walk::look` meets its contract, by its ways out.
 -- Assumes nothing.
 use borrow.Author.Tests.{not-true, not-false}
-use Rattle.vec_read.specs.walk.Walk.{asked_not, asked_so}
+use Rattle.vec_read.proofs.walk.WalkLaws.{asked_not, asked_so}
 use borrow.Author.Rules.{rules}
 use Rattle.vec_read.proofs.walk.look.Statement.{statement}
 use Rattle.vec_read.proofs.walk.look.Tie as tie

@@ -2,8 +2,8 @@
 -- Assumes nothing.
 use mathlib.Core.Path.{◌∙◌}
 use mathlib.Core.Bool.{true}
-use Rattle.vec_read.specs.lines.Counts.{counts_more, counts_good}
-use Rattle.vec_read.specs.walk.Walk.{walked_bad, searched_walk}
+use Rattle.vec_read.proofs.lines.Counts.{counts_more, counts_good}
+use Rattle.vec_read.proofs.walk.WalkLaws.{walked_bad, searched_walk}
 use borrow.Author.Rules.{rules}
 use Rattle.vec_read.proofs.walk.search.Statement.{statement}
 use Rattle.vec_read.proofs.walk.search.Tie as tie

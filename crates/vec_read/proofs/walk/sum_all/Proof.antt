@@ -2,7 +2,7 @@
 -- Assumes nothing.
 use mathlib.Core.Path.{refl}
 use borrow.Author.Tests.{not-true, not-false}
-use Rattle.vec_read.specs.walk.Sum.{sum_not, sum_last}
+use Rattle.vec_read.proofs.walk.SumLaws.{sum_not, sum_last}
 use borrow.Author.Rules.{rules}
 use Rattle.vec_read.proofs.walk.sum_all.Statement.{statement}
 use Rattle.vec_read.proofs.walk.sum_all.Tie as tie

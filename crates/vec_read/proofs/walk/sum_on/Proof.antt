@@ -1,7 +1,7 @@
 -- `vec_read::walk::sum_on` meets its contract: the bytes before a long block are taken in, and the block's own checksum is joined behind them.
 -- Assumes nothing.
 use borrow.Author.Tests.{not-false}
-use Rattle.vec_read.specs.walk.Sum.{sum_joined}
+use Rattle.vec_read.proofs.walk.SumLaws.{sum_joined}
 use borrow.Author.Rules.{rules}
 use Rattle.vec_read.proofs.walk.sum_on.Statement.{statement}
 use Rattle.vec_read.proofs.walk.sum_on.Tie as tie

@@ -1,7 +1,7 @@
 -- `vec_read::walk::walk` meets its contract: a bad directory is refused, and behind a good one the blocks are walked, with a list that takes their ids.
 -- Assumes nothing.
-use Rattle.vec_read.specs.lines.Counts.{counts_more}
-use Rattle.vec_read.specs.walk.Walk.{walked_bad}
+use Rattle.vec_read.proofs.lines.Counts.{counts_more}
+use Rattle.vec_read.proofs.walk.WalkLaws.{walked_bad}
 use borrow.Author.Rules.{rules}
 use Rattle.vec_read.proofs.walk.walk.Statement.{statement}
 use Rattle.vec_read.proofs.walk.walk.Tie as tie

@@ -5,11 +5,11 @@ use mathlib.Core.Path.{◌≡◌, refl, sym, ap, ◌∙◌}
 use native.Mathlib.Omega.{arith}
 use lib.ListN.{length}
 use Rattle.octets.specs.Round.{round64}
-use Rattle.octets.specs.RoundLaws.{round64_ge}
+use Rattle.octets.proofs.RoundLaws.{round64_ge}
 use Rattle.vecseg.specs.Payload.{block_count}
-use Rattle.vec_read.specs.lines.Counts.{count_fits}
-use Rattle.vec_read.specs.walk.Walk.{looked_past, looked_here}
-use Rattle.vec_read.specs.walk.Turn.{WalkAt, walk_first, turn_room, turn_offset, turn_bounds, turn_bad, turn_inside, turn_holds, turn_next, walk_more, walk_sum, walk_missing, walk_found}
+use Rattle.vec_read.proofs.lines.Counts.{count_fits}
+use Rattle.vec_read.proofs.walk.WalkLaws.{looked_past, looked_here}
+use Rattle.vec_read.proofs.walk.Turn.{WalkAt, walk_first, turn_room, turn_offset, turn_bounds, turn_bad, turn_inside, turn_holds, turn_next, walk_more, walk_sum, walk_missing, walk_found}
 use borrow.Author.Rules.{rules}
 use Rattle.vec_read.proofs.walk.walk_blocks.Statement.{statement}
 use Rattle.vec_read.proofs.walk.walk_blocks.Lts.{in-Place, in_default}

@@ -1,6 +1,6 @@
 -- `vec_read::walk::walk_many` meets its contract: no block of a good directory has more ids than its list takes.
 -- Assumes nothing.
-use Rattle.vec_read.specs.lines.Counts.{counts_good}
+use Rattle.vec_read.proofs.lines.Counts.{counts_good}
 use borrow.Author.Rules.{rules}
 use Rattle.vec_read.proofs.walk.walk_many.Statement.{statement}
 use Rattle.vec_read.proofs.walk.walk_many.Tie as tie

@@ -1,6 +1,6 @@
 -- `vec_read::width::width_of` meets its contract.
 -- Assumes nothing.
-use Rattle.vecseg.specs.LineLaws.{width_f32, width_byte, width_unsigned, width_none}
+use Rattle.vecseg.proofs.LineLaws.{width_f32, width_byte, width_unsigned, width_none}
 use Rattle.vec_read.proofs.width.width_of.Statement.{statement}
 use Rattle.vec_read.proofs.width.width_of.Tie as tie
 

@@ -6,8 +6,8 @@ use native.Mathlib.Omega.{arith}
 use lib.ListN.{length}
 use lib.Seq.{length-take-le}
 use Rattle.octets.specs.Round.{round64}
-use Rattle.octets.specs.RoundLaws.{round64_ge}
-use Rattle.vecseg.specs.Laid.{padded, map_laid, block_laid}
+use Rattle.octets.proofs.RoundLaws.{round64_ge}
+use Rattle.vecseg.proofs.Laid.{padded, map_laid, block_laid}
 use borrow.Author.Rules.{rules}
 use Rattle.vec_write.proofs.parts.put_block.Statement.{statement}
 use Rattle.vec_write.proofs.parts.put_block.Tie as tie

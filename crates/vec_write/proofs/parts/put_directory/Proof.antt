@@ -3,7 +3,7 @@
 use mathlib.Core.Path.{refl}
 use native.Mathlib.Omega.{arith}
 use Rattle.octets.specs.Round.{round64}
-use Rattle.vecseg.specs.Laid.{padded, directory_laid}
+use Rattle.vecseg.proofs.Laid.{padded, directory_laid}
 use borrow.Author.Rules.{rules}
 use Rattle.vec_write.proofs.parts.put_directory.Statement.{statement}
 use Rattle.vec_write.proofs.parts.put_directory.Tie as tie

@@ -1,0 +1,5 @@
+-- Laws of what specs/ defines.
+pub mod Marks
+pub mod Held
+pub mod Turn
+pub mod Members

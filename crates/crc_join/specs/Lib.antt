@@ -1,2 +1,0 @@
--- A checksum by the checksums of its parts: laws.
-pub mod Join

@@ -1,2 +1,0 @@
--- Where the loops stand that write an id map.
-pub mod Put

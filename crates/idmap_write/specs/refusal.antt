@@ -1,2 +1,0 @@
--- What an id map is refused for, by the ways out.
-pub mod RefusalLaws

@@ -1,0 +1,5 @@
+-- Laws of what specs/ defines.
+pub mod CandidateLaws
+pub mod Opened
+pub mod FileManifestLaws
+pub mod Indexed

@@ -1,0 +1,4 @@
+-- Laws of what specs/ defines.
+pub mod Down
+pub mod Numbered
+pub mod Offsets

@@ -1,2 +1,0 @@
--- The steps of writing a segment.
-pub mod Laid

@@ -1,0 +1,4 @@
+-- Laws of what specs/ defines.
+pub mod WalkLaws
+pub mod SumLaws
+pub mod Turn

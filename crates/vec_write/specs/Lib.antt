@@ -1,2 +1,0 @@
--- The vector writer: what it refuses and accepts.
-pub mod Refusal
