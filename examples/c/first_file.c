@@ -1,7 +1,7 @@
 /* Makes a file in memory, appends a batch of three positions, asks for one of them by its id and prints it.
  *
- *     rt staticlib rvf_c
- *     cc -Iinclude examples/c/first_file.c target/staticlib/librvf_c.a -o target/first_file && target/first_file
+ *     (cd crates/rvf_c && rt lib)
+ *     cc -Iinclude examples/c/first_file.c crates/rvf_c/out/librvf_c.a -o first_file && ./first_file
  */
 #include <stdio.h>
 #include <string.h>

@@ -23,7 +23,7 @@ fn c_example_prints_the_vector() {
             .args(["-std=c99", "-O2", "-Wall", "-Wextra", "-Wpedantic", "-Werror", "-I"])
             .arg(root().join("include"))
             .arg(root().join("examples/c/first_file.c"))
-            .arg(root().join("target/staticlib/librvf_c.a"))
+            .arg(root().join("crates/rvf_c/out/librvf_c.a"))
             .arg("-o")
             .arg(&program),
     );

@@ -16,12 +16,12 @@ fn root() -> PathBuf {
 
 /// What the program prints about a file.
 fn printed(file: &[u8]) -> String {
-    let program = root().join("target/bin/rvf_list");
+    let program = root().join("crates/rvf_list/out/rvf_list");
     let mut child = Command::new(&program)
         .stdin(Stdio::piped())
         .stdout(Stdio::piped())
         .spawn()
-        .unwrap_or_else(|error| panic!("{}: {error}; 'rt check rvf_list' builds it", program.display()));
+        .unwrap_or_else(|error| panic!("{}: {error}; 'rt run' in crates/rvf_list builds it", program.display()));
     // The program stops reading one byte above its limit, and may close its input before all is written.
     let _ = child.stdin.take().expect("its input is piped").write_all(file);
     let output = child.wait_with_output().expect("the program ends");

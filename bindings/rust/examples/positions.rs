@@ -1,7 +1,7 @@
 //! Two batches of positions under one id, then the newer one retired: the store answers the
 //! newest live position each time.
 //!
-//!     rt staticlib rvf_c
+//!     (cd crates/rvf_c && rt lib)
 //!     cargo run --offline --manifest-path bindings/rust/Cargo.toml --example positions
 
 use rvf::{Body, Component, Dtype, Encoding, Refusal, Vectors};
