@@ -4,13 +4,12 @@
 
 use answers::Wrote;
 use std::io;
-use std::io::Read;
 
 fn main(rt: HostRuntime) -> io::Result<()> {
-    let mut file = Vec::new(rt.alloc());
-    rt.reader().take(65_537).read_to_end(&mut file)?;
+    let mut file = [0u8; 65537];
     let mut text = [0u8; 102400];
-    match listing::list(&file, &mut text) {
+    let n = input::read_full(&mut rt.reader(), &mut file)?;
+    match listing::list(&file[..n], &mut text) {
         // The buffer has room for the longest list.
         Wrote::Refused(_) => Ok(()),
         Wrote::Length(length) => rt.write_all(&text[..length]),

@@ -4,7 +4,6 @@
 
 use answers::Wrote;
 use std::io;
-use std::io::Read;
 
 fn line(rt: &impl Print, n: u64) -> io::Result<()> {
     println!(rt; "{n}")
@@ -39,7 +38,7 @@ fn show(rt: &impl Print, bytes: &[u8]) -> io::Result<()> {
 }
 
 fn main(rt: HostRuntime) -> io::Result<()> {
-    let mut bytes = Vec::new(rt.alloc());
-    rt.reader().take(65_536).read_to_end(&mut bytes)?;
-    show(&rt, &bytes)
+    let mut buffer = [0u8; 65536];
+    let n = input::read_full(&mut rt.reader(), &mut buffer)?;
+    show(&rt, &buffer[..n])
 }

@@ -6,7 +6,6 @@ ghost use Rattle.std.specs.Prelude.{◌≡◌, nat_abs};
 
 use reading::ComponentRead;
 use std::io;
-use std::io::Read;
 use vecseg::Component;
 
 fn line(rt: &impl Print, value: u64) -> io::Result<()> {
@@ -90,10 +89,10 @@ fn show(rt: &impl Print, file: &[u8]) -> io::Result<()> {
 
 // One byte more than the limit is read, so that a longer file shows as one: it is refused as the lister refuses it.
 fn main(rt: HostRuntime) -> io::Result<()> {
-    let mut file = Vec::new(rt.alloc());
-    rt.reader().take(65_537).read_to_end(&mut file)?;
-    if file.len() > 65_536 {
+    let mut file = [0u8; 65537];
+    let n = input::read_full(&mut rt.reader(), &mut file)?;
+    if n > 65536 {
         return refused(&rt, 1);
     }
-    show(&rt, &file)
+    show(&rt, &file[..n])
 }
