@@ -1,4 +1,4 @@
-// Appending: definitions and laws (specs/), and the type of what an append answers.
+// Appending: definitions (specs/) and laws (proofs/), and the type of what an append answers.
 #![tactic(auto)]
 
 // What an append answers: the new end, the manifest's id and the number of its entries; or the number of a refusal.

@@ -1,4 +1,4 @@
-// Getting room back: definitions and laws (specs/), and the type of what is answered.
+// Getting room back: definitions (specs/) and laws (proofs/), and the type of what is answered.
 #![tactic(auto)]
 
 // What compaction answers: the fresh file's end, its manifest's id and the number of its entries; or the number of a

@@ -1,2 +1,2 @@
-// Id maps: definitions and laws alone (specs/). Reading and writing them stand in crates of their own and share these.
+// Id maps: definitions (specs/) and laws (proofs/) alone. Reading and writing them stand in crates of their own and share these.
 #![tactic(auto)]

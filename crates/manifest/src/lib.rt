@@ -1,4 +1,4 @@
-// Manifests and what opening finds: definitions and laws (specs/), and the types of what is answered about them.
+// Manifests and what opening finds: definitions (specs/) and laws (proofs/), and the types of what is answered about them.
 #![tactic(auto)]
 
 pub mod fields;

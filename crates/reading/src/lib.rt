@@ -1,4 +1,4 @@
-// Reading by id: definitions and laws (specs/), and the types of what is answered.
+// Reading by id: definitions (specs/) and laws (proofs/), and the types of what is answered.
 #![tactic(auto)]
 
 use vecseg::Component;

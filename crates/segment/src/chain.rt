@@ -1,1 +1,1 @@
-// Chains of links: definitions and laws only, in specs/.
+// Chains of links: definitions in specs/ and laws in proofs/ only.

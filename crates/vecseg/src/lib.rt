@@ -1,4 +1,4 @@
-// VEC_SEG payloads: definitions and laws (specs/), and the types of what is read out of one.
+// VEC_SEG payloads: definitions (specs/) and laws (proofs/), and the types of what is read out of one.
 #![tactic(auto)]
 
 // The type of a VEC_SEG.
