@@ -1,3 +1,3 @@
--- Laws of what specs/ defines.
+-- The steps of writing what an append writes.
 pub mod Bodies
 pub mod Laid

@@ -1,2 +1,2 @@
--- Laws of what specs/ defines.
+-- A manifest's payload by the file alone, its laws, and the steps of writing it.
 pub mod Laid

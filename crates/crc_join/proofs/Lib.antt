@@ -1,2 +1,2 @@
--- Laws of what specs/ defines.
+-- A checksum by the checksums of its parts: laws.
 pub mod Join

@@ -1,2 +1,2 @@
--- Laws of what specs/ defines.
+-- What the steps of taking an id map apart answer.
 pub mod Head

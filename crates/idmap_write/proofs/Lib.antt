@@ -1,2 +1,2 @@
--- Laws of what specs/ defines.
+-- The id-map writer by its ways out.
 pub mod WriteLaws

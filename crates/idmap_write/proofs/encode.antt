@@ -1,2 +1,2 @@
--- Laws of what specs/ defines.
+-- Where the loops stand that write an id map.
 pub mod Put

@@ -1,2 +1,2 @@
--- Laws of what specs/ defines.
+-- What an id map is refused for, by the ways out.
 pub mod RefusalLaws

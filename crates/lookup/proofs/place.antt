@@ -1,2 +1,2 @@
--- Laws of what specs/ defines.
+-- What a place of a payload promises, and the search for it.
 pub mod Find

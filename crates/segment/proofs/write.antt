@@ -1,2 +1,2 @@
--- Laws of what specs/ defines.
+-- The steps of writing a segment.
 pub mod Laid

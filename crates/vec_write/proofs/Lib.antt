@@ -1,2 +1,2 @@
--- Laws of what specs/ defines.
+-- The vector writer: what it refuses and accepts.
 pub mod RefusalLaws
