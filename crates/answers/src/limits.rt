@@ -1,4 +1,4 @@
-// The bounds of document 01, as the code has them. specs/Limits.antt has the same numbers for the definitions.
+// The bounds of document 01, as the code has them. specs/limits/Limits.antt has the same numbers for the definitions.
 // Vectors in a block, and so ids in a map: 1 to this.
 pub const MAX_VECTORS: usize = 4096;
 // The restart interval that a delta map gets where 0 is asked.

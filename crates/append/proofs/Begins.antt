@@ -31,7 +31,7 @@ use Rattle.append.proofs.commit.Base.{kept_opens}
 
 -- ---- an empty file
 
-module _ (g : List ℕ) (None-found : opened g ≡ none) where
+module _ (g : List ℕ) (none_found : opened g ≡ none) where
   pub base_empty : (offsets : List ℕ) → length g ≡ 0 → Base g offsets 0 0 true 0
   unfolding start_of next_id next_id_of up_to
   base_empty offsets e =
@@ -39,19 +39,19 @@ module _ (g : List ℕ) (None-found : opened g ≡ none) where
         whole = e;
         small = omega arith;
         at_most = omega arith;
-        start_is = ap start_of None-found;
-        count_is = ap (λ (o : Option (Found Link)). length (kept_links o)) None-found;
-        next_is = ap next_id None-found;
-        offsets_are = sym (ap (λ (o : Option (Found Link)). offsets_of (kept_links o)) None-found);
+        start_is = ap start_of none_found;
+        count_is = ap (λ (o : Option (Found Link)). length (kept_links o)) none_found;
+        next_is = ap next_id none_found;
+        offsets_are = sym (ap (λ (o : Option (Found Link)). offsets_of (kept_links o)) none_found);
       }
 
   pub states_empty : (bs : List Body) (ids : List ℕ) → new_count (opened g) bs ≤ max_entries → take (new_count (opened g) bs) (replicate 1024 0) ≡ new_states (opened g) bs ids
   unfolding new_count new_states kept_states up_to
   states_empty bs ids h =
       zeros_front (new_count (opened g) bs) 1024 h
-      ∙ ap (λ (o : Option (Found Link)). replicate (new_count o bs) 0) None-found
+      ∙ ap (λ (o : Option (Found Link)). replicate (new_count o bs) 0) none_found
       ∙ sym (replicate-append-replicate 0 (length bs) 0)
-      ∙ sym (ap (λ (o : Option (Found Link)). new_states o bs ids) None-found)
+      ∙ sym (ap (λ (o : Option (Found Link)). new_states o bs ids) none_found)
 
   pub retire_none : (ids : List ℕ) → length ids ≡ 0 → retire_held (old_links (opened g)) (old_states (opened g)) ids ≡ true
   unfolding retire_held
@@ -61,7 +61,7 @@ module _ (g : List ℕ) (None-found : opened g ≡ none) where
   pub retire_some : (ids : List ℕ) → 0 < length ids → retire_held (old_links (opened g)) (old_states (opened g)) ids ≡ false
   unfolding retire_held retirable old_links old_states
   retire_some [] e = absurd (omega arith)
-  retire_some (x ∷ ids) e = ap (λ (o : Option (Found Link)). retire_held (old_links o) (old_states o) (x ∷ ids)) None-found
+  retire_some (x ∷ ids) e = ap (λ (o : Option (Found Link)). retire_held (old_links o) (old_states o) (x ∷ ids)) none_found
 
 -- ---- a manifest
 
