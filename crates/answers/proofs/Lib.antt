@@ -1,3 +1,4 @@
 -- Laws of what specs/ defines.
+pub mod HandedOn
 pub mod Out
 pub mod WriteLaws

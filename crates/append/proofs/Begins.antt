@@ -1,7 +1,7 @@
 -- What an append begins from: an empty file, or the file's manifest; and the states that its new directory gets.
 -- Assumes nothing.
 use Prim.Native.Nat.{ℕ, ◌+◌, ◌-◌, ◌≤◌, ◌<◌}
-use Rattle.std.specs.Prelude.{◌≡◌, true, false}
+use Rattle.std.specs.Prelude.{◌≡◌, true, false, Some, None}
 use Rattle.std.proofs.Math.Path.{refl, sym, ap}
 use Rattle.std.proofs.Common.{◌∙◌, take-take}
 use Rattle.std.proofs.Math.Option.{Option, none, some}
@@ -32,7 +32,7 @@ use Rattle.append.proofs.commit.Base.{kept_opens}
 -- ---- an empty file
 
 module _ (g : List ℕ) (none_found : opened g ≡ none) where
-  pub base_empty : (offsets : List ℕ) → length g ≡ 0 → Base g offsets 0 0 true 0
+  pub base_empty : (offsets : List ℕ) → length g ≡ 0 → Base g offsets 0 0 None
   unfolding start_of next_id next_id_of up_to
   base_empty offsets e =
       record {
@@ -85,7 +85,7 @@ module _ (f old offsets : List ℕ) (n offset end id count : ℕ) (f-is : take n
   pub front_opens : opened (take end old) ≡ opened f
   front_opens = ap opened front_same ∙ kept_opens f
 
-  pub base_later : Base (take end old) offsets end (count + 1) false id
+  pub base_later : Base (take end old) offsets end (count + 1) (Some id)
   unfolding next_id_of next_id up_to
   base_later =
       let r = manifest_room f offsets offset count t s has_room m in

@@ -18,7 +18,11 @@ use Rattle.manifest.specs.Payload.{entry_size, states_in}
 use Rattle.manifest.specs.Opening.{opened, states}
 use Rattle.manifest.specs.At.{Inside}
 use Rattle.manifest.proofs.Lying.{Lying, chain_lying, lying_inside}
-use Rattle.opening.specs.Indexed.{ManifestAt}
+use Rattle.opening.specs.Indexed.{ManifestAt, Indexed}
+use Rattle.opening.proofs.Indexed.{manifest_part}
+use Rattle.octets.specs.le.Le.{Bytes}
+use Rattle.segment.specs.Header.{length_at}
+use Rattle.segment.specs.index.Offsets.{most}
 use Rattle.appending.specs.Retire.{retire_held, retired}
 use Rattle.appending.specs.Append.{old_links, old_states}
 use Rattle.octets.proofs.Parts.{laid_front}
@@ -107,3 +111,10 @@ module _ (f : List ℕ) (manifest count : ℕ) (m : ManifestAt f manifest count)
           ap (drop count) s ∙ drop_at (states_in count (drop 8 part)) (drop (0 + length (states_in count (drop 8 part))) ss₀) count n
           ∙ ap (λ (j : ℕ). drop j ss₀) d ∙ ap (drop count) z ∙ zeros_left count 1024 in
           ap₂ ◌++◌ (e ∙ marked want) tail
+
+-- the manifest's payload, as the code takes it out of the file: len is what the code has read
+pub part_is : (f offsets : List ℕ) (offset count : ℕ) (t : Bytes f) (s : Indexed f offsets) (has_room : most ≤ length offsets) (m : ManifestAt f offset count) (len : ℕ)
+    → len ≡ length_at f offset → take (offset + 64 + len - (offset + 64)) (drop (offset + 64) f) ≡ m.found.link.payload
+part_is f offsets offset count t s has_room m len l =
+    let e : offset + 64 + len - (offset + 64) ≡ len = omega arith in
+    ap (λ (n : ℕ). take n (drop (offset + 64) f)) (e ∙ l) ∙ (manifest_part f offsets offset count t s has_room m).1.0

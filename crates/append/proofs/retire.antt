@@ -3,3 +3,4 @@ pub mod Marks
 pub mod Held
 pub mod Turn
 pub mod Members
+pub mod Number

@@ -3,3 +3,4 @@ pub mod Entries
 pub mod commit
 pub mod retire
 pub mod vectors
+pub mod form

@@ -7,6 +7,8 @@ ghost use Rattle.manifest.specs.Payload.{payload_length};
 ghost use Rattle.manifest.specs.At.{Inside, payload_at};
 ghost use Rattle.answers.specs.limits.Limits.{max_entries, max_file};
 
+use segment::write::Header;
+
 // The manifest of the links at some offsets, with their states, as a segment at a place. Its payload is put together
 // in a list of our own, since the headers that it copies stand in the same buffer.
 pub fn put_manifest(
@@ -27,13 +29,11 @@ pub fn put_manifest(
     let mut payload = [0u8; manifest::fields::MAX_PAYLOAD];
     let n = confirm::payload::put_payload(&mut payload, &buf[..at], offsets, states, at as u64, id);
     let sum = confirm::payload::payload_sum(&payload[..n]);
-    segment::write::put_segment(
-        &mut buf[at..],
-        manifest::fields::KIND,
-        0,
+    let header = Header {
+        kind: manifest::fields::KIND,
+        flags: 0,
         id,
         timestamp,
-        &payload[..n],
-        sum,
-    );
+    };
+    segment::write::put_segment(&mut buf[at..], header, &payload[..n], sum);
 }

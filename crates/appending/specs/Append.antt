@@ -1,7 +1,7 @@
 -- Appending as document 01 has it ('The batch sheet and appending'): the answer for all input, with every refusal in 01's order, and the whole
 -- buffer after the call. Definitions only.
 -- Assumes nothing.
-use Rattle.std.specs.Prelude.{ℕ, ◌+◌, ◌-◌, ◌^◌, ◌≤◌, ◌≡◌, Bool, true, false, cond, not, ◌&&◌, List, [], ◌∷◌, ◌++◌, eqb, ltb, length, take, replicate}
+use Rattle.std.specs.Prelude.{ℕ, ◌+◌, ◌-◌, ◌^◌, ◌≤◌, ◌≡◌, Bool, true, false, cond, not, ◌&&◌, List, [], ◌∷◌, ◌++◌, eqb, ltb, length, take, replicate, Result, Ok, Err}
 use Rattle.std.proofs.Math.Option.{Option, none, some}
 use Rattle.octets.specs.Round.{round64}
 use Rattle.octets.specs.Over.{over}
@@ -16,7 +16,6 @@ use Rattle.vecseg.specs.Payload.{vec_kind, check_of, first_of}
 use Rattle.batch.specs.Form.{Body, batch_held, bodies_of}
 use Rattle.appending.specs.Retire.{retire_held, retired}
 use Rattle.appending.specs.declared.Appended.{Appended}
-use Rattle.appending.specs.declared.Appended.TheVariants.{At, Refused}
 
 -- ---- what an append goes on from: the file's manifest, or none
 
@@ -155,9 +154,9 @@ pub record Appends (old : List ℕ) (n : ℕ) (batch ids : List ℕ) (ts : ℕ) 
   pub leaves : new ≡ append_buffer old n batch ids ts
 
 -- document 01's number and values for each case
-unfoldable pub appended_answer : Appended → Answer
-appended_answer (At end id count) = Accepted (end ∷ id ∷ count ∷ [])
-appended_answer (Refused n) = Refusal n []
+unfoldable pub appended_answer : Result Appended ℕ → Answer
+appended_answer (Ok a) = Accepted (a.end ∷ a.id ∷ a.count ∷ [])
+appended_answer (Err n) = Refusal n []
 
 -- ---- on a buffer
 

@@ -12,7 +12,7 @@ use Rattle.segment.specs.Header.{Link, size}
 use Rattle.manifest.specs.Opening.{opened, states, tried, found_case, opened_answer, open_answer}
 use Rattle.manifest.proofs.OpeningLaws.{at_within, open_within}
 use Rattle.manifest.specs.Directory.{entry_in, entry_case}
-use Rattle.manifest.specs.declared.DirectoryEntry.TheVariants.{Refused as NotOpened}
+use Rattle.std.specs.Prelude.{Ok, Err}
 use Rattle.reading.specs.Part.{InFile}
 use Rattle.reading.proofs.Placed.{before_in}
 use Rattle.batch.specs.Form.{bodies_of}
@@ -37,7 +37,7 @@ module _ (g : List ℕ) (k : Model) (a : Agree g k) where
 
   pub opening_refuses : k.manifest ≡ none → open_answer g ≡ Refusal 2 (length g / 64 ∷ [])
   unfolding opened_answer found_case tried
-  opening_refuses e = open_within g a.fits ∙ ap (λ (o : Option (Found Link)). opened_answer (found_case g o)) (no_manifest e)
+  opening_refuses e = open_within g a.fits ∙ ap (λ (o : Option (Found Link)). opened_answer (Ok (found_case g o))) (no_manifest e)
 
   pub opening_answers : (m : Entry) → k.manifest ≡ some m
       → open_answer g ≡ Accepted (m.link.offset ∷ k.end ∷ m.link.id ∷ length k.entries ∷ (length g / 64 - m.link.offset / 64) ∷ [])
@@ -46,7 +46,7 @@ module _ (g : List ℕ) (k : Model) (a : Agree g k) where
       let o = has-manifest m e in
       let z : m.link.offset + size m.link ≡ k.end = sym (ap start_of o) ∙ a.end_is in
       let n : length (links_of k.entries) ≡ length k.entries = length-map k.entries (λ (x : Entry). x.link) in
-      open_within g a.fits ∙ ap (λ (o : Option (Found Link)). opened_answer (found_case g o)) o ∙ rw (z, n)
+      open_within g a.fits ∙ ap (λ (o : Option (Found Link)). opened_answer (Ok (found_case g o))) o ∙ rw (z, n)
 
   pub directory_is : (m : Entry) → k.manifest ≡ some m → (i : ℕ) → entry_case g i ≡ entry_by k.entries i
   unfolding entry_case entry_in entry_by old_states
@@ -54,7 +54,7 @@ module _ (g : List ℕ) (k : Model) (a : Agree g k) where
       let o = has-manifest m e in
       let n : length (links_of k.entries) ≡ length k.entries = length-map k.entries (λ (x : Entry). x.link) in
       let s : states (record { before = links_of k.entries; link = m.link }) ≡ states_of k.entries = sym (ap old_states o) ∙ a.states_are in
-      at_within (NotOpened 1) (entry_in i) g a.fits ∙ ap (entry_in i) o ∙ rw (n, s)
+      at_within (Err 1) (entry_in i) g a.fits ∙ ap (entry_in i) o ∙ rw (n, s)
 
   pub entries_lie : All (InFile g) (links_of k.entries)
   unfolding found_by All up_to

@@ -18,11 +18,10 @@ use Rattle.segment.proofs.Laws.{size_least}
 use Rattle.manifest.specs.Opening.{opened, found_case, opened_answer}
 use Rattle.manifest.proofs.OpeningLaws.{open_within, answers_alike}
 use Rattle.manifest.specs.Directory.{entry_in, entry_case}
-use Rattle.manifest.specs.declared.DirectoryEntry.TheVariants.{Refused as NotOpened}
+use Rattle.std.specs.Prelude.{Ok, Err}
 use Rattle.reading.specs.Answers.{NotHanded, part_found, part_in, Bad, hit_found, hit_in, vector_hit, buffer_hit, vector_case, vector_after, value_hit, value_in}
 use Rattle.reading.specs.Listing.{max_listed, list_with}
 use Rattle.compacting.specs.Compact.{compact_found, compact_case, buffer_found, compact_buffer}
-use Rattle.compacting.specs.declared.Compacted.TheVariants.{Refused as NotCompacted}
 use Rattle.batch.specs.Form.{bodies_of}
 use Rattle.appending.specs.Append.{start_of, new_end, new_bytes, checked, is_none, append_checks, answer_on, append_answer, Appends, Holds}
 use Rattle.appending.proofs.Opens.{kept, cut_file, new_length}
@@ -32,7 +31,7 @@ use Rattle.claim.proofs.Reports.{refused_run}
 
 -- ---- answers alike
 
-tried_apart : (f g : List ℕ) (o : Option (Found Link)) → without_tried (opened_answer (found_case f o)) ≡ without_tried (opened_answer (found_case g o))
+tried_apart : (f g : List ℕ) (o : Option (Found Link)) → without_tried (opened_answer (Ok (found_case f o))) ≡ without_tried (opened_answer (Ok (found_case g o)))
 unfolding without_tried opened_answer found_case
 tried_apart f g none = refl
 tried_apart f g (some r) = refl
@@ -49,15 +48,15 @@ alike f g h k e =
     let hit : (id : ℕ) → hit_in f id ≡ hit_in g id = λ id. answers_alike (Bad 1) (hit_found id) f g h k e in
     record {
       opening =
-          ap without_tried (open_within f h ∙ ap (λ (o : Option (Found Link)). opened_answer (found_case f o)) e)
+          ap without_tried (open_within f h ∙ ap (λ (o : Option (Found Link)). opened_answer (Ok (found_case f o))) e)
           ∙ tried_apart f g (opened g)
           ∙ ap without_tried (sym (open_within g k));
-      entry = λ i. answers_alike (NotOpened 1) (entry_in i) f g h k e;
+      entry = λ i. answers_alike (Err 1) (entry_in i) f g h k e;
       payload = λ id. answers_alike (NotHanded 1) (part_found id) f g h k e;
       vector = λ id buf. ap (vector_hit buf) (hit id);
       buffer = λ id buf. ap (buffer_hit buf) (hit id);
       component = λ id i. ap (value_hit i) (hit id);
-      compaction = λ buf. answers_alike (NotCompacted 1) (compact_found buf) f g h k e;
+      compaction = λ buf. answers_alike (Err 1) (compact_found buf) f g h k e;
       written = λ buf. answers_alike buf (buffer_found buf) f g h k e;
       listing = λ p q t. listed_alike f g p q t e;
     }

@@ -5,7 +5,7 @@ use Rattle.std.specs.Prelude.{ℕ, ◌≡◌, refl, List}
 use Rattle.octets.specs.le.Le.{Bytes}
 use Rattle.segment.specs.Written.{link_of}
 use Rattle.compacting.specs.Compact.{fresh_found, fresh_manifest, compact_case}
-use Rattle.compacting.specs.declared.Compacted.TheVariants.{At}
+use Rattle.std.specs.Prelude.{Ok}
 use Rattle.compacting.specs.Promise.{Compaction, written_file}
 use Rattle.compacting.proofs.Theorem.{compacted}
 use Rattle.claim.specs.Model.{model_of}
@@ -34,6 +34,6 @@ starts_anew f buf end id count c = opens c.within c.reopens
 
 -- 'A list of later appends gets the ids it would have got on the old file, as long as both files accept and refuse the same ones'; every prefix of
 -- the lists is such a pair too, so it holds after each call
-pub later_appends : {f f' g' : List ℕ} {cs ds : List Call} (buf : List ℕ) (end id count : ℕ) → Bytes f → compact_case f buf ≡ At end id count
+pub later_appends : {f f' g' : List ℕ} {cs ds : List Call} (buf : List ℕ) (end id count : ℕ) → Bytes f → compact_case f buf ≡ Ok (record { end = end; id = id; count = count })
     → Run f cs f' → Run (written_file f buf end) ds g' → SameCalls cs ds → SameIds cs ds × InStep f' g'
 later_appends {f = f} buf end id count t e r r' s = later r r' s (in_step f buf end id count (compacted f buf end id count t e))

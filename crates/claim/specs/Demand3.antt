@@ -10,7 +10,8 @@ use Rattle.segment.specs.Header.{Link, no_link}
 use Rattle.manifest.specs.Opening.{opened, open_answer}
 use Rattle.manifest.specs.Directory.{entry_of, entry_case}
 use Rattle.manifest.specs.declared.DirectoryEntry.{DirectoryEntry}
-use Rattle.manifest.specs.declared.DirectoryEntry.TheVariants.{NoEntry}
+use Rattle.std.specs.Prelude.{Result, Ok, Some, None}
+use Rattle.std.specs.Prelude.{Option as Maybe}
 use Rattle.reading.specs.Answers.{part_in, vector_case, vector_after, value_in}
 use Rattle.reading.specs.Part.{InFile}
 use Rattle.reading.specs.Listing.{max_listed, list_with}
@@ -60,8 +61,8 @@ pub data Starts : List ℕ → Model → Type 0 where
 -- ---- after the list
 
 -- the directory's entry with an index, as the model has it
-unfoldable pub entry_by : List Entry → ℕ → DirectoryEntry
-entry_by es i = cond (leb (length es) i) NoEntry (entry_of (get_or (links_of es) i no_link) (get_or (states_of es) i 0))
+unfoldable pub entry_by : List Entry → ℕ → Result (Maybe DirectoryEntry) ℕ
+entry_by es i = Ok (cond (leb (length es) i) None (Some (entry_of (get_or (links_of es) i no_link) (get_or (states_of es) i 0))))
 
 -- what the last accepted append answered
 unfoldable pub or_before : Option Answer → Answer → Option Answer

@@ -3,8 +3,7 @@
 ghost use Rattle.std.specs.Prelude.{◌≡◌};
 ghost use Rattle.claim_uses.specs.anew.Anew.{AnewPromise, anew_buffer};
 
-use appending::Appended;
-use compacting::Compacted;
+use answers::Refusal;
 use manifest::Opened;
 
 // The fresh file after the append, opened. Where compaction or the append refuses, its number; what opening answers
@@ -15,29 +14,13 @@ pub fn compact_and_append(
     batch: &[u8],
     retire: &[u64],
     timestamp: u64,
-) -> Opened
+) -> Result<Opened, Refusal>
     ensures answer { AnewPromise file.now buf.old batch.now
         retire.now timestamp result }
     ensures buf { buf.new ≡ anew_buffer file.now buf.old batch.now
         retire.now timestamp }
 {
-    let c = compact::compact(file, buf);
-    match c {
-        Compacted::Refused(number) => Opened::Refused(number),
-        Compacted::At {
-            end,
-            id: _,
-            count: _,
-        } => {
-            let a = append::append(buf, end as u64, batch, retire, timestamp);
-            match a {
-                Appended::Refused(number) => Opened::Refused(number),
-                Appended::At {
-                    end: last,
-                    id: _,
-                    count: _,
-                } => opening::open(&buf[..last]),
-            }
-        }
-    }
+    let fresh = compact::compact(file, buf)?;
+    let appended = append::append(buf, fresh.end as u64, batch, retire, timestamp)?;
+    opening::open(&buf[..appended.end])
 }

@@ -7,15 +7,15 @@ ghost use Rattle.appending.specs.Append.{start_of, append_buffer};
 ghost use Rattle.claim_uses.specs.cut.CutRead.{CutReadPromise};
 ghost use Rattle.answers.specs.limits.Limits.{max_file};
 
-use appending::Appended;
+use answers::Refusal;
 use manifest::Opened;
 use vecseg::Vector;
 
-// The vector; or the number by which the append refused; or that k leaves all of the new bytes.
+// What reading the cut file answers; or why the append refused; or that k leaves all of the new bytes.
 #[derive(Drop)]
 pub enum CutRead {
-    Read(Vector),
-    NotAppended(u32),
+    Read(Result<Vector, Refusal>),
+    NotAppended(Refusal),
     NotCut,
 }
 
@@ -23,17 +23,18 @@ pub enum CutRead {
 fn start_of(file: &[u8]) -> usize
     ensures { length file.now ≤ max_file → result ≡ start_of (opened file.now) }
 {
-    let o = opening::open(file);
-    match o {
-        Opened::Refused(_) => 0,
-        Opened::NoManifest { tried: _ } => 0,
-        Opened::At {
-            offset: _,
-            end,
-            id: _,
-            count: _,
-            tried: _,
-        } => end,
+    match opening::open(file) {
+        Ok(
+            Opened::At {
+                offset: _,
+                end,
+                id: _,
+                count: _,
+                tried: _,
+            },
+        ) => end,
+        Ok(Opened::NoManifest { tried: _ }) => 0,
+        Err(_) => 0,
     }
 }
 
@@ -54,24 +55,19 @@ pub fn append_and_cut(
         ids.now timestamp }
 {
     if n > buf.len() as u64 {
-        return CutRead::NotAppended(9);
+        return CutRead::NotAppended(Refusal::NoRoom);
     }
     let size = n as usize;
     let start = start_of(&buf[..size]);
-    let a = append::append(buf, n, batch, ids, timestamp);
-    match a {
-        Appended::Refused(number) => CutRead::NotAppended(number),
-        Appended::At {
-            end,
-            id: _,
-            count: _,
-        } => {
+    match append::append(buf, n, batch, ids, timestamp) {
+        Err(refusal) => CutRead::NotAppended(refusal),
+        Ok(appended) => {
+            let end = appended.end;
             if k >= end - start {
                 return CutRead::NotCut;
             }
             let cut = start + k;
-            let v = lookup::vector::vector(&buf[..cut], id, out);
-            CutRead::Read(v)
+            CutRead::Read(lookup::vector::vector(&buf[..cut], id, out))
         }
     }
 }

@@ -3,21 +3,16 @@
 ghost use Rattle.std.specs.Prelude.{◌≡◌};
 ghost use Rattle.claim_uses.specs.twice.Twice.{TwicePromise, twice_buffer};
 
-use appending::Appended;
+use answers::Refusal;
 use manifest::Opened;
 
-// What opening answers at the end: the manifest's offset, end and id and the number of its entries; or no manifest;
-// or the number by which an append refused.
-#[derive(Drop)]
-pub enum Twice {
-    At {
-        offset: usize,
-        end: usize,
-        id: u64,
-        count: usize,
-    },
-    Lost,
-    Refused(u32),
+// What opening answers at the end: the manifest's offset, end and id and the number of its entries.
+#[derive(Clone, Copy)]
+pub struct Twice {
+    pub offset: usize,
+    pub end: usize,
+    pub id: u64,
+    pub count: usize,
 }
 
 // The file after the two appends, opened. Where an append refuses, its number; what opening answers else is the
@@ -28,47 +23,30 @@ pub fn append_twice(
     second: &[u8],
     retire: &[u64],
     timestamp: u64,
-) -> Twice
+) -> Result<Option<Twice>, Refusal>
     ensures answer { TwicePromise buf.old first.now second.now
         retire.now timestamp result }
     ensures buf { buf.new ≡ twice_buffer buf.old first.now second.now
         retire.now timestamp }
 {
-    let a = append::append(buf, 0, first, &retire[..0], timestamp);
-    match a {
-        Appended::Refused(number) => Twice::Refused(number),
-        Appended::At {
+    let one = append::append(buf, 0, first, &retire[..0], timestamp)?;
+    let two = append::append(buf, one.end as u64, second, retire, timestamp)?;
+    match opening::open(&buf[..two.end]) {
+        Ok(
+            Opened::At {
+                offset,
+                end,
+                id,
+                count,
+                tried: _,
+            },
+        ) => Ok(Some(Twice {
+            offset,
             end,
-            id: _,
-            count: _,
-        } => {
-            let b = append::append(buf, end as u64, second, retire, timestamp);
-            match b {
-                Appended::Refused(number) => Twice::Refused(number),
-                Appended::At {
-                    end: last,
-                    id: _,
-                    count: _,
-                } => {
-                    let o = opening::open(&buf[..last]);
-                    match o {
-                        Opened::Refused(_) => Twice::Lost,
-                        Opened::NoManifest { tried: _ } => Twice::Lost,
-                        Opened::At {
-                            offset,
-                            end,
-                            id,
-                            count,
-                            tried: _,
-                        } => Twice::At {
-                            offset: offset,
-                            end: end,
-                            id: id,
-                            count: count,
-                        },
-                    }
-                }
-            }
-        }
+            id,
+            count: count,
+        })),
+        Ok(Opened::NoManifest { tried: _ }) => Ok(None),
+        Err(_) => Ok(None),
     }
 }

@@ -3,3 +3,4 @@ pub mod CopyLaws
 pub mod FileLaws
 pub mod Links
 pub mod PlaceLaws
+pub mod PutLaws

@@ -6,6 +6,8 @@ ghost use Rattle.manifest.specs.Payload.{entry_size, payload_length};
 ghost use Rattle.compact.specs.copies.Copies.{Standing, copies_at, places_at, placed, file_at};
 ghost use Rattle.answers.specs.limits.Limits.{max_entries, max_file};
 
+use segment::write::Header;
+
 // The segments at some offsets, with their headers and padding, behind one another at the front of a buffer. Each
 // offset becomes the segment's new place.
 fn copy_segments(buf: &mut [u8], file: &[u8], offsets: &mut [u64])
@@ -16,15 +18,13 @@ fn copy_segments(buf: &mut [u8], file: &[u8], offsets: &mut [u64])
     ensures offsets { offsets.new ≡ places_at file.now 0 offsets.old }
 {
     let mut at: usize = 0;
-    let mut i: usize = 0;
-    while i < offsets.len() {
-        let p = offsets[i] as usize;
+    for offset in offsets.iter_mut() {
+        let p = *offset as usize;
         let length = octets::le::u64_at(file, p + segment::fields::LENGTH) as usize;
         let size = 64 + octets::round_up(length);
         confirm::entries::copy_at(buf, at, file, p, size);
-        offsets[i] = at as u64;
+        *offset = at as u64;
         at += size;
-        i += 1;
     }
 }
 
@@ -33,11 +33,8 @@ fn put_places(buf: &mut [u8], base: usize, places: &[u64])
     requires { base + entry_size * length places.now ≤ length buf.old }
     ensures { buf.new ≡ placed base places.now buf.old }
 {
-    let mut i: usize = 0;
-    while i < places.len() {
-        let place = places[i];
-        octets::le::put(buf, base + manifest::fields::ENTRY_SIZE * i, 8, place);
-        i += 1;
+    for (i, place) in places.iter().enumerate() {
+        octets::le::put(buf, base + manifest::fields::ENTRY_SIZE * i, 8, *place);
     }
 }
 
@@ -72,13 +69,11 @@ pub fn put_file(
     put_places(buf, body + manifest::fields::RECORD_HEAD, offsets);
     let end = body + len;
     let hash = segment::hash_by(confirm::payload::payload_sum(&buf[body..end]));
-    segment::write::put_header(
-        &mut buf[at..],
-        manifest::fields::KIND,
-        0,
+    let header = Header {
+        kind: manifest::fields::KIND,
+        flags: 0,
         id,
         timestamp,
-        len,
-        hash,
-    );
+    };
+    segment::write::put_header(&mut buf[at..], header, len, hash);
 }

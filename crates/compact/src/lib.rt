@@ -5,13 +5,13 @@ pub mod copies;
 pub mod select;
 
 ghost use Rattle.std.specs.Prelude.{◌≡◌, ◌≤◌, length};
+ghost use Rattle.answers.specs.Answer.{numbered};
 ghost use Rattle.segment.specs.index.Offsets.{most};
 ghost use Rattle.opening.specs.Indexed.{ManifestAt, Indexed};
 ghost use Rattle.compacting.specs.Compact.{compact_case, compact_buffer};
 
-use crate::select::Selected;
+use answers::Refusal;
 use compacting::Compacted;
-use opening::FileManifest;
 
 // The same of a file whose manifest is found: 4, then 9.
 fn compact_from(
@@ -20,51 +20,39 @@ fn compact_from(
     offsets: &mut [u64],
     manifest: usize,
     count: usize,
-) -> Compacted
+) -> Result<Compacted, Refusal>
     requires most_in_bounds { most ≤ length offsets.old }
     requires indexed { Indexed file.now offsets.old }
     requires manifest_at { ManifestAt file.now manifest count }
-    ensures answer { result ≡ compact_case file.now buf.old }
+    ensures answer { numbered result ≡ compact_case file.now buf.old }
     ensures buf { buf.new ≡ compact_buffer file.now buf.old }
 {
-    let selected = crate::select::select(file, offsets, manifest, count);
-    match selected {
-        Selected::Damaged => Compacted::Refused(4),
-        Selected::Of { count: n, end: at } => {
-            let end = at
-                + 64
-                + octets::round_up(
-                    octets::round_up(
-                        manifest::fields::RECORD_HEAD + manifest::fields::ENTRY_SIZE * n,
-                    ) + manifest::fields::ROOT_SIZE,
-                );
-            if end > buf.len() {
-                return Compacted::Refused(9);
-            }
-            let id = octets::le::u64_at(file, manifest + segment::fields::ID);
-            let timestamp = octets::le::u64_at(file, manifest + segment::fields::TIMESTAMP);
-            crate::copies::put_file(buf, file, &mut offsets[..n], at, id, timestamp);
-            Compacted::At { end, id, count: n }
-        }
+    let selected = crate::select::select(file, offsets, manifest, count)?;
+    let n = selected.count;
+    let at = selected.end;
+    let end = at
+        + 64
+        + octets::round_up(
+            octets::round_up(manifest::fields::RECORD_HEAD + manifest::fields::ENTRY_SIZE * n)
+                + manifest::fields::ROOT_SIZE,
+        );
+    if end > buf.len() {
+        return Err(Refusal::NoRoom);
     }
+    let id = octets::le::u64_at(file, manifest + segment::fields::ID);
+    let timestamp = octets::le::u64_at(file, manifest + segment::fields::TIMESTAMP);
+    crate::copies::put_file(buf, file, &mut offsets[..n], at, id, timestamp);
+    Ok(Compacted { end, id, count: n })
 }
 
 // A fresh file of the live segments but manifests, in the directory's order, with one manifest behind them: the end,
 // the manifest's id, the number of its entries. 1, 2, then 4 where a segment to be copied is not whole, then 9. On a
 // refusal nothing is written.
-pub fn compact(file: &[u8], buf: &mut [u8]) -> Compacted
-    ensures answer { result ≡ compact_case file.now buf.old }
+pub fn compact(file: &[u8], buf: &mut [u8]) -> Result<Compacted, Refusal>
+    ensures answer { numbered result ≡ compact_case file.now buf.old }
     ensures buf { buf.new ≡ compact_buffer file.now buf.old }
 {
     let mut offsets = [0u64; segment::index::MOST];
-    let found = opening::file_manifest(file, &mut offsets);
-    match found {
-        FileManifest::Refused(number) => Compacted::Refused(number),
-        FileManifest::At {
-            offset,
-            end: _,
-            count,
-            tried: _,
-        } => compact_from(file, buf, &mut offsets, offset, count),
-    }
+    let manifest = opening::file_manifest(file, &mut offsets)?;
+    compact_from(file, buf, &mut offsets, manifest.offset, manifest.count)
 }

@@ -15,7 +15,6 @@ use Rattle.answers.specs.limits.Limits.{max_file}
 use Rattle.answers.specs.Answer.{Accepted}
 use Rattle.answers.specs.Write.{write_answer, write_buffer}
 use Rattle.answers.proofs.WriteLaws.{write_done}
-use Rattle.answers.specs.declared.Wrote.TheVariants.{Length, Refused as NotWritten}
 use Rattle.segment.specs.chain.Chain.{Found}
 use Rattle.segment.specs.Header.{Link, size, whole}
 use Rattle.segment.specs.Written.{link_of}
@@ -33,7 +32,8 @@ use Rattle.compacting.proofs.Copied.{live_all, none_manifest, without_none, move
 use Rattle.compacting.proofs.Fresh.{link_inside, never_later, payload_long, fresh_length, fresh_states, unchanged, fresh_opens}
 use Rattle.compacting.proofs.Same.{manifest_gone, missing_gone, unplaced_moved, same_answers, with_moved}
 use Rattle.compacting.specs.Promise.{unplaced, Compaction, written_file}
-use Rattle.compacting.specs.declared.Compacted.TheVariants.{At, Refused}
+use Rattle.compacting.specs.declared.Compacted.{Compacted}
+use Rattle.std.specs.Prelude.{Result, Ok, Err}
 
 -- ---- the links of the fresh file
 
@@ -76,23 +76,23 @@ module _ (f : List ℕ) (r : Found Link) (t : Bytes f) (e : opened f ≡ some r)
 
 -- ---- a refusal leaves the buffer
 
-refused_found : (buf : List ℕ) (n : ℕ) (o : Option (Found Link)) → compact_found buf o ≡ Refused n → buffer_found buf o ≡ buf
+refused_found : (buf : List ℕ) (n : ℕ) (o : Option (Found Link)) → compact_found buf o ≡ Err n → buffer_found buf o ≡ buf
 unfolding compact_found compacted_by buffer_found write_answer write_buffer
 refused_found buf n none q = refl
 refused_found buf n (some r) q = go (eqb (damaged (copied r)) 0) (leb (length (fresh_file r)) (length buf)) q
   where
-    go : (b c : Bool) → compacted_by r (cond b (cond c (Length (length (fresh_file r))) (NotWritten 9)) (NotWritten (damaged (copied r)))) ≡ Refused n
+    go : (b c : Bool) → compacted_by r (cond b (cond c (Ok (length (fresh_file r))) (Err 9)) (Err (damaged (copied r)))) ≡ Err n
         → cond b (cond c (over buf 0 (fresh_file r)) buf) buf ≡ buf
     go true true z = absurd (let w : ◌≡◌ {A = ℕ} 0 1 = cc in omega arith)
     go true false z = refl
     go false c z = refl
 
-pub refused_leaves : (f buf : List ℕ) (n : ℕ) → compact_case f buf ≡ Refused n → compact_buffer f buf ≡ buf
+pub refused_leaves : (f buf : List ℕ) (n : ℕ) → compact_case f buf ≡ Err n → compact_buffer f buf ≡ buf
 unfolding compact_case compact_buffer
 refused_leaves f buf n q = go (dec_le (length f) max_file)
   where
     go : Dec (length f ≤ max_file) → compact_buffer f buf ≡ buf
-    go (yes h) = at_within buf (buffer_found buf) f h ∙ refused_found buf n (opened f) (sym (at_within (Refused 1) (compact_found buf) f h) ∙ q)
+    go (yes h) = at_within buf (buffer_found buf) f h ∙ refused_found buf n (opened f) (sym (at_within (Err 1) (compact_found buf) f h) ∙ q)
     go (no h) = at_long buf (buffer_found buf) f (lt_of_not-le h)
 
 -- ---- what an accepted compaction has passed
@@ -104,20 +104,25 @@ pub record Accepts (buf : List ℕ) (r : Found Link) (end id count : ℕ) : Type
   pub id_is : id ≡ r.link.id
   pub count_is : count ≡ length (copied r)
 
-accepts : (buf : List ℕ) (r : Found Link) (end id count : ℕ) → compact_found buf (some r) ≡ At end id count → Accepts buf r end id count
+-- the values of an accepted one
+abbrev values_of : Result Compacted ℕ → Compacted
+values_of (Ok c) = c
+values_of (Err n) = record { end = 0; id = 0; count = 0 }
+
+accepts : (buf : List ℕ) (r : Found Link) (end id count : ℕ) → compact_found buf (some r) ≡ Ok (record { end = end; id = id; count = count }) → Accepts buf r end id count
 unfolding compact_found compacted_by write_answer
 accepts buf r end id count q = go (eqb (damaged (copied r)) 0) (leb (length (fresh_file r)) (length buf)) refl refl q
   where
     go : (b c : Bool) → eqb (damaged (copied r)) 0 ≡ b → leb (length (fresh_file r)) (length buf) ≡ c
-        → compacted_by r (cond b (cond c (Length (length (fresh_file r))) (NotWritten 9)) (NotWritten (damaged (copied r)))) ≡ At end id count → Accepts buf r end id count
+        → compacted_by r (cond b (cond c (Ok (length (fresh_file r))) (Err 9)) (Err (damaged (copied r)))) ≡ Ok (record { end = end; id = id; count = count }) → Accepts buf r end id count
     go true true h k z =
-        record { sound = eqb-true (damaged (copied r)) 0 h; room = leb-true (length (fresh_file r)) (length buf) k; end_is = cc; id_is = cc; count_is = cc }
+        record { sound = eqb-true (damaged (copied r)) 0 h; room = leb-true (length (fresh_file r)) (length buf) k; end_is = ap (λ (x : Result Compacted ℕ). (values_of x).end) (sym z); id_is = ap (λ (x : Result Compacted ℕ). (values_of x).id) (sym z); count_is = ap (λ (x : Result Compacted ℕ). (values_of x).count) (sym z) }
     go true false h k z = absurd (let w : ◌≡◌ {A = ℕ} 0 1 = cc in omega arith)
     go false c h k z = absurd (let w : ◌≡◌ {A = ℕ} 0 1 = cc in omega arith)
 
 -- and the other way
 accepted : (buf : List ℕ) (r : Found Link) → damaged (copied r) ≡ 0 → length (fresh_file r) ≤ length buf
-    → (compact_found buf (some r) ≡ At (length (fresh_file r)) r.link.id (length (copied r))) × (buffer_found buf (some r) ≡ over buf 0 (fresh_file r))
+    → (compact_found buf (some r) ≡ Ok (record { end = length (fresh_file r); id = r.link.id; count = length (copied r) })) × (buffer_found buf (some r) ≡ over buf 0 (fresh_file r))
 unfolding compact_found compacted_by buffer_found
 accepted buf r w h =
     let d = write_done (fresh_file r) buf (damaged (copied r)) (length (fresh_file r)) (over buf 0 (fresh_file r)) w h refl refl in
@@ -127,7 +132,7 @@ accepted buf r w h =
 same_values : (o e i c t e' i' c' : ℕ) → e ≡ e' → i ≡ i' → c ≡ c' → Accepted (o ∷ e ∷ i ∷ c ∷ t ∷ []) ≡ Accepted (o ∷ e' ∷ i' ∷ c' ∷ t ∷ [])
 same_values o e i c t e' i' c' p q s = rw (p, q, s)
 
-same_numbers : (e i c e' i' c' : ℕ) → e ≡ e' → i ≡ i' → c ≡ c' → At e i c ≡ At e' i' c'
+same_numbers : (e i c e' i' c' : ℕ) → e ≡ e' → i ≡ i' → c ≡ c' → ◌≡◌ {A = Result Compacted ℕ} (Ok (record { end = e; id = i; count = c })) (Ok (record { end = e'; id = i'; count = c' }))
 same_numbers e i c e' i' c' p q s = rw (p, q, s)
 
 -- ---- the theorem
@@ -170,7 +175,7 @@ module _ (f buf : List ℕ) (end id count : ℕ) (t : Bytes f) (in_limit : lengt
   unfolding found_case opened_answer tried fresh_manifest link_of
   reports =
       open_within g within
-      ∙ ap (λ (o : Option (Found Link)). opened_answer (found_case g o)) reopens
+      ∙ ap (λ (o : Option (Found Link)). opened_answer (Ok (found_case g o))) reopens
       ∙ same_values (fresh_manifest r).offset _ _ _ (length g / 64 - (fresh_manifest r).offset / 64) end id count link-end (sym a.id_is)
       (moved_length 0 (copied r) ∙ sym a.count_is)
 
@@ -180,11 +185,11 @@ module _ (f buf : List ℕ) (end id count : ℕ) (t : Bytes f) (in_limit : lengt
       at_within (NotHanded 1) (part_found x) g within ∙ ap (part_found x) reopens
       ∙ part_missing x (fresh_found r) (ap (with_id x) (live-fresh f r t e) ∙ with_moved x 0 (copied r) n)
 
-  again : (buf' : List ℕ) → end ≤ length buf' → (compact_case g buf' ≡ At end id count) × (compact_buffer g buf' ≡ over buf' 0 g)
+  again : (buf' : List ℕ) → end ≤ length buf' → (compact_case g buf' ≡ Ok (record { end = end; id = id; count = count })) × (compact_buffer g buf' ≡ over buf' 0 g)
   unfolding compact_case compact_buffer fresh_manifest link_of
   again buf' h =
       let z = accepted buf' (fresh_found r) (fresh-sound f r t e a.sound) (omega (arith, ap length (same-file f r t e), a.end_is)) in (
-        at_within (Refused 1) (compact_found buf') g within ∙ ap (compact_found buf') reopens ∙ z.0
+        at_within (Err 1) (compact_found buf') g within ∙ ap (compact_found buf') reopens ∙ z.0
             ∙ same_numbers _ _ _ end id count (ap length (same-file f r t e) ∙ sym a.end_is) (sym a.id_is) (same_count f r t e ∙ sym a.count_is),
         at_within buf' (buffer_found buf') g within ∙ ap (buffer_found buf') reopens ∙ z.1 ∙ ap (over buf' 0) (same-file f r t e ∙ sym file-is),
       )
@@ -214,13 +219,13 @@ module _ (f buf : List ℕ) (end id count : ℕ) (t : Bytes f) (in_limit : lengt
         again = again;
       }
 
-pub compacted : (f buf : List ℕ) (end id count : ℕ) → Bytes f → compact_case f buf ≡ At end id count → Compaction f buf end id count
+pub compacted : (f buf : List ℕ) (end id count : ℕ) → Bytes f → compact_case f buf ≡ Ok (record { end = end; id = id; count = count }) → Compaction f buf end id count
 unfolding compact_case compact_found
 compacted f buf end id count t q = go (opened f) refl p.1
   where
-    p : (length f ≤ max_file) × (compact_found buf (opened f) ≡ At end id count)
-    p = at_inside (Refused 1) (At end id count) (compact_found buf) f (λ z. let w : ◌≡◌ {A = ℕ} 0 1 = cc in omega arith) q
+    p : (length f ≤ max_file) × (compact_found buf (opened f) ≡ Ok (record { end = end; id = id; count = count }))
+    p = at_inside {A = Result Compacted ℕ} (Err 1) (Ok (record { end = end; id = id; count = count })) (compact_found buf) f (λ z. let w : ◌≡◌ {A = ℕ} 0 1 = cc in omega arith) q
 
-    go : (o : Option (Found Link)) → opened f ≡ o → compact_found buf o ≡ At end id count → Compaction f buf end id count
+    go : (o : Option (Found Link)) → opened f ≡ o → compact_found buf o ≡ Ok (record { end = end; id = id; count = count }) → Compaction f buf end id count
     go none h z = absurd (let w : ◌≡◌ {A = ℕ} 0 1 = cc in omega arith)
     go (some r) h z = compaction f buf end id count t p.0 r h (accepts buf r end id count z)

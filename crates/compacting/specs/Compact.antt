@@ -1,12 +1,10 @@
 -- Compaction as document 02 has it (§11, 'Getting room back'): a fresh file of a file's live segments, written into a buffer. The answer for all
 -- input and the whole buffer after the call, in the order of §11's sentences. Definitions only.
 -- Assumes nothing.
-use Rattle.std.specs.Prelude.{ℕ, ◌+◌, Bool, cond, List, [], ◌∷◌, ◌++◌, eqb, length, replicate}
+use Rattle.std.specs.Prelude.{ℕ, ◌+◌, Bool, cond, List, [], ◌∷◌, ◌++◌, eqb, length, replicate, Result, Ok, Err}
 use Rattle.std.proofs.Math.Option.{Option, none, some}
 use Rattle.answers.specs.Answer.{Answer, Accepted, Refusal}
 use Rattle.answers.specs.Write.{write_answer, write_buffer}
-use Rattle.answers.specs.declared.Wrote.{Wrote}
-use Rattle.answers.specs.declared.Wrote.TheVariants.{Length, Refused as NotWritten}
 use Rattle.segment.specs.chain.Chain.{Found}
 use Rattle.segment.specs.Header.{Link, size, whole}
 use Rattle.segment.specs.Written.{segment, link_of}
@@ -14,7 +12,6 @@ use Rattle.manifest.specs.Payload.{manifest_kind, manifest_payload}
 use Rattle.manifest.specs.Opening.{at_opened}
 use Rattle.reading.specs.Live.{live}
 use Rattle.compacting.specs.declared.Compacted.{Compacted}
-use Rattle.compacting.specs.declared.Compacted.TheVariants.{At, Refused}
 
 -- ---- what is written
 
@@ -66,22 +63,22 @@ damaged [] = 0
 damaged (l ∷ ls) = cond (whole l) (damaged ls) 4
 
 -- 'It answers as appending does': the new end, the manifest's id, the number of its entries
-unfoldable pub compacted_by : Found Link → Wrote → Compacted
-compacted_by r (Length n) = At n r.link.id (length (copied r))
-compacted_by r (NotWritten n) = Refused n
+unfoldable pub compacted_by : Found Link → Result ℕ ℕ → Result Compacted ℕ
+compacted_by r (Ok n) = Ok (record { end = n; id = r.link.id; count = length (copied r) })
+compacted_by r (Err n) = Err n
 
 -- 'Refusals: 1, 2, then 4 .., then 9'
-unfoldable pub compact_found : List ℕ → Option (Found Link) → Compacted
-compact_found buf none = Refused 2
+unfoldable pub compact_found : List ℕ → Option (Found Link) → Result Compacted ℕ
+compact_found buf none = Err 2
 compact_found buf (some r) = compacted_by r (write_answer (damaged (copied r)) (fresh_file r) buf)
 
-unfoldable pub compact_case : List ℕ → List ℕ → Compacted
-compact_case f buf = at_opened (Refused 1) (compact_found buf) f
+unfoldable pub compact_case : List ℕ → List ℕ → Result Compacted ℕ
+compact_case f buf = at_opened (Err 1) (compact_found buf) f
 
 -- its number and values
-unfoldable pub compacted_answer : Compacted → Answer
-compacted_answer (At end id count) = Accepted (end ∷ id ∷ count ∷ [])
-compacted_answer (Refused n) = Refusal n []
+unfoldable pub compacted_answer : Result Compacted ℕ → Answer
+compacted_answer (Ok c) = Accepted (c.end ∷ c.id ∷ c.count ∷ [])
+compacted_answer (Err n) = Refusal n []
 
 -- ---- the buffer after it: 'The buffer behind it keeps its values'; on a refusal all of it does
 

@@ -1,7 +1,7 @@
 -- What §11 of document 02 promises of an accepted compaction: of the file that was read, and of the file that was written. Definitions only, in the
 -- order of §11's sentences; the theorem stands in Theorem.antt.
 -- Assumes nothing.
-use Rattle.std.specs.Prelude.{ℕ, ◌+◌, ◌-◌, ◌/◌, ◌≤◌, ◌≡◌, List, [], ◌∷◌, map, length, take, drop, replicate}
+use Rattle.std.specs.Prelude.{ℕ, ◌+◌, ◌-◌, ◌/◌, ◌≤◌, ◌≡◌, List, [], ◌∷◌, map, length, take, drop, replicate, Ok}
 use Rattle.std.proofs.Math.Option.{none, some}
 use Rattle.octets.specs.Over.{over}
 use Rattle.answers.specs.limits.Limits.{max_file}
@@ -14,7 +14,6 @@ use Rattle.manifest.specs.Opening.{opened, states, open_answer}
 use Rattle.reading.specs.Live.{live, with_id}
 use Rattle.reading.specs.Answers.{Part, Handed, NotHanded, part_in, vector_case, vector_after, value_in}
 use Rattle.compacting.specs.Compact.{copied, moved_to, fresh_found, compact_case, compact_buffer}
-use Rattle.compacting.specs.declared.Compacted.TheVariants.{At}
 
 -- segments alike but for their places
 abbrev pub unplaced : List Link → List Link
@@ -63,4 +62,4 @@ pub record Compaction (f buf : List ℕ) (end id count : ℕ) : Type 0 where
   pub within : length (written_file f buf end) ≤ max_file
   -- compacted again it gives the same bytes
   pub again : (buf' : List ℕ) → end ≤ length buf'
-      → (compact_case (written_file f buf end) buf' ≡ At end id count) × (compact_buffer (written_file f buf end) buf' ≡ over buf' 0 (written_file f buf end))
+      → (compact_case (written_file f buf end) buf' ≡ Ok (record { end = end; id = id; count = count })) × (compact_buffer (written_file f buf end) buf' ≡ over buf' 0 (written_file f buf end))

@@ -1,6 +1,6 @@
 // A manifest's entries, written from the file's own headers: an entry is copied from the header that stands at the
 // link's place.
-ghost use Rattle.std.specs.Prelude.{◌≡◌, [], ◌∷◌, ◌+◌, ◌*◌, ◌≤◌, ◌<◌, length, take, drop};
+ghost use Rattle.std.specs.Prelude.{◌≡◌, ◌+◌, ◌*◌, ◌≤◌, length, take, drop};
 ghost use Rattle.octets.specs.Over.{over};
 ghost use Rattle.manifest.specs.At.{Inside, entry_at, entries_at};
 ghost use Rattle.manifest.specs.Payload.{entries_end};
@@ -10,29 +10,7 @@ pub fn copy_at(buf: &mut [u8], at: usize, file: &[u8], from: usize, n: usize)
     requires { (at + n ≤ length buf.old) × (from + n ≤ length file.now) }
     ensures { buf.new ≡ over buf.old at (take n (drop from file.now)) }
 {
-    let to = from + n;
-    octets::copy(&mut buf[at..], &file[from..to]);
-}
-
-// Two words of the file, at a place of a buffer. Each is read and written by one move, where a loop over the bytes
-// moves them one by one; and the first is written before the second is read, or the compiler takes three moves for
-// both.
-fn copy_words(buf: &mut [u8], at: usize, file: &[u8], from: usize)
-    requires { (at + 16 ≤ length buf.old) × (from + 16 ≤ length file.now) }
-    ensures { buf.new ≡ over buf.old at (take 16 (drop from file.now)) }
-{
-    let low = octets::le::u64_at(file, from);
-    octets::le::put(buf, at, 8, low);
-    let high = octets::le::u64_at(file, from + 8);
-    octets::le::put(buf, at + 8, 8, high);
-}
-
-// One byte at a place.
-fn put_byte(buf: &mut [u8], at: usize, b: u8)
-    requires { at < length buf.old }
-    ensures { buf.new ≡ over buf.old at (b ∷ []) }
-{
-    buf[at] = b;
+    buf[at..at + n].copy_from_slice(&file[from..from + n]);
 }
 
 // The entry of the link at an offset, with its state: offset, id, payload length, hash, type, state, flags, zeros.
@@ -43,20 +21,22 @@ pub fn put_entry(buf: &mut [u8], at: usize, file: &[u8], offset: usize, state: u
     let kind = file[offset + segment::fields::KIND];
     let flags = octets::le::u16_at(file, offset + segment::fields::FLAGS);
     octets::le::put(buf, at, 8, offset as u64);
-    copy_words(
+    copy_at(
         buf,
         at + manifest::fields::ID,
         file,
         offset + segment::fields::ID,
+        16,
     );
-    copy_words(
+    copy_at(
         buf,
         at + manifest::fields::HASH,
         file,
         offset + segment::fields::HASH,
+        16,
     );
-    put_byte(buf, at + manifest::fields::ENTRY_KIND, kind);
-    put_byte(buf, at + manifest::fields::STATE, state);
+    buf[at + manifest::fields::ENTRY_KIND] = kind;
+    buf[at + manifest::fields::STATE] = state;
     octets::le::put(buf, at + manifest::fields::FLAGS, 2, flags as u64);
     octets::le::put(buf, at + manifest::fields::ZEROS, 4, 0);
 }
@@ -69,17 +49,13 @@ pub fn put_entries(buf: &mut [u8], file: &[u8], offsets: &[u64], states: &[u8])
     ensures { buf.new ≡ over buf.old 8
         (entries_at file.now offsets.now states.now) }
 {
-    let mut i: usize = 0;
-    while i < offsets.len() {
-        let offset = offsets[i];
-        let state = states[i];
+    for (i, (offset, state)) in offsets.iter().zip(states).enumerate() {
         put_entry(
             buf,
             manifest::fields::RECORD_HEAD + manifest::fields::ENTRY_SIZE * i,
             file,
-            offset as usize,
-            state,
+            *offset as usize,
+            *state,
         );
-        i += 1;
     }
 }

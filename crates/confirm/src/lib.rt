@@ -8,7 +8,7 @@ pub mod entries;
 pub mod payload;
 pub mod states;
 
-ghost use Rattle.std.specs.Prelude.{◌≡◌, ◌+◌, ◌*◌, ◌≤◌, length, take};
+ghost use Rattle.std.specs.Prelude.{◌≡◌, ◌+◌, ◌*◌, ◌≤◌, length};
 ghost use Rattle.manifest.specs.Payload.{payload_length};
 ghost use Rattle.manifest.specs.At.{Inside};
 ghost use Rattle.confirm.specs.states.At.{states_held_at, confirmed_at};
@@ -20,14 +20,11 @@ fn states_held(file: &[u8], offsets: &[u64], states: &[u8]) -> bool
     requires inside { Inside file.now offsets.now }
     ensures { result ≡ states_held_at file.now offsets.now states.now }
 {
-    let mut i: usize = 0;
-    while i < offsets.len() {
-        let offset = offsets[i] as usize;
-        let kind = file[offset + segment::fields::KIND];
-        if !crate::states::state_held(kind, states[i]) {
+    for (offset, state) in offsets.iter().zip(states) {
+        let kind = file[*offset as usize + segment::fields::KIND];
+        if !crate::states::state_held(kind, *state) {
             return false;
         }
-        i += 1;
     }
     true
 }
@@ -64,34 +61,21 @@ fn confirm_with(
     segment::is_whole_by(file, at, len, sum)
 }
 
-// Whether the link at a place is confirmed, where the n links before it stand at the first n offsets, and its header
-// says this length, type and id.
-pub fn is_confirmed(
-    file: &[u8],
-    offsets: &[u64],
-    n: usize,
-    at: usize,
-    len: usize,
-    kind: u8,
-    id: u64,
-) -> bool
-    requires n_in_bounds { (n ≤ length offsets.now) × (at + (64 + len) ≤ length file.now) }
-    requires inside { Inside file.now (take n offsets.now) }
-    ensures { result ≡ confirmed_at file.now (take n offsets.now) at len kind id }
+// Whether the link at a place is confirmed, where the links before it stand at these offsets, and its header says this
+// length, type and id.
+pub fn is_confirmed(file: &[u8], offsets: &[u64], at: usize, len: usize, kind: u8, id: u64) -> bool
+    requires len_in_bounds { at + (64 + len) ≤ length file.now }
+    requires inside { Inside file.now offsets.now }
+    ensures { result ≡ confirmed_at file.now offsets.now at len kind id }
 {
-    if kind != manifest::fields::KIND {
+    if kind != manifest::fields::KIND || offsets.len() > answers::limits::MAX_ENTRIES {
         return false;
     }
-    if n > answers::limits::MAX_ENTRIES {
-        return false;
-    }
-    if len
-        != octets::round_up(manifest::fields::RECORD_HEAD + manifest::fields::ENTRY_SIZE * n)
-            + manifest::fields::ROOT_SIZE
-    {
+    let long = manifest::fields::RECORD_HEAD + manifest::fields::ENTRY_SIZE * offsets.len();
+    if len != octets::round_up(long) + manifest::fields::ROOT_SIZE {
         return false;
     }
     let mut states = [0u8; answers::limits::MAX_ENTRIES];
     let mut buf = [0u8; manifest::fields::MAX_PAYLOAD];
-    confirm_with(file, &offsets[..n], at, len, id, &mut states, &mut buf)
+    confirm_with(file, offsets, at, len, id, &mut states, &mut buf)
 }

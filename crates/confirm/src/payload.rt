@@ -16,6 +16,7 @@ const ZEROS_POWER: u64 = 0x4362_E151;
 
 // The root of a manifest with c entries at the front of a buffer. Its checksum is taken of the bytes before it, and the
 // zeros among them are one product, not a pass.
+#[tactic(auto, unfolding(manifest::specs::Payload::payload_length, manifest::specs::Sized::record_by, octets::specs::Round::round64))]
 pub fn put_root(buf: &mut [u8], c: usize, offset: u64, id: u64)
     requires in_bounds { 4096 ≤ length buf.old }
     requires c_bound { offset + 64 + round64 (payload_length c) < 2 ^ 64 }
@@ -42,6 +43,7 @@ pub fn put_root(buf: &mut [u8], c: usize, offset: u64, id: u64)
 }
 
 // The payload of a manifest at an offset, with an id, over the links at some offsets with their states; and its length.
+#[tactic(auto, unfolding(manifest::specs::Payload::payload_length, manifest::specs::Sized::record_by, octets::specs::Round::round64))]
 pub fn put_payload(
     buf: &mut [u8],
     file: &[u8],

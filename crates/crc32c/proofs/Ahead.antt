@@ -1,16 +1,12 @@
 -- The laws of specs/Ahead.antt.
 -- Assumes nothing.
 use Rattle.std.specs.Prelude.{ℕ, zero, suc, ◌+◌, ◌*◌, ◌/◌, ◌%◌, ◌^◌, ◌<◌, ◌≡◌, refl, List, [], ◌∷◌, map, get_or}
-use Rattle.std.proofs.Common.{sym, ap, ap₂, ◌∙◌, add_assoc, mul_assoc, mod-lt, pow-suc, arith, lit<, pow-add}
+use Rattle.std.proofs.Common.{sym, ap, ap₂, subst, ◌∙◌, add_assoc, mul_assoc, mod-lt, pow-suc, arith, lit<, pow-add}
 use Rattle.std.specs.Int.Bits.{bit_xor}
 use Rattle.std.proofs.lemmas.Nat.{xor_comm}
 use Rattle.crc32c.specs.Crc.{poly, bit, bits}
 use Rattle.crc32c.proofs.Linear.{bits_none, bits_first, bits_xor, bits_zero, bits_add, bits_shifted, bits_split}
-use Rattle.crc32c.specs.Ahead.{Ahead}
-
--- the factor with which eight steps take a byte n bits on: what n bits make of 1, seven places up, so that no step reduces
-unfoldable pub factor : ℕ → ℕ
-factor n = bits poly n 1 * 2 ^ 7
+use Rattle.crc32c.specs.Ahead.{Ahead, factor, factors_from}
 
 -- the factors that are used, for n from 8 to 64 and from 200 to 256, computed
 abbrev pub lengths : List ℕ
@@ -101,3 +97,19 @@ ahead_reduced y r hr =
     ∙ ap (λ (k : ℕ). bit_xor k (bits poly 16 h)) (hr 8 ∙ bits_add poly 16 64 (l * 2 ^ 16) ∙ ap (λ (k : ℕ). bits poly 64 k) (bits_shifted poly 16 l))
     ∙ xor_comm (bits poly 64 l) (bits poly 16 h)
     ∙ sym (bits_split poly 48 16 y)
+
+-- the same by how far the whole word is taken
+pub ahead_next : (k n q x r s : ℕ) → k ≡ 8 + n → q ≡ factor k → r ≡ bits q 8 (x % 256) → Ahead n (x / 256) s → Ahead k x (bit_xor r s)
+ahead_next k n q x r s e eq er hs =
+    subst (λ (j : ℕ). Ahead j x (bit_xor r s)) (sym e) (ahead_more n q x r s (eq ∙ ap (λ (j : ℕ). factor j) e) er hs)
+
+-- the factors of the two distances, computed
+pub four_words_factors : factors_from 200
+    ≡ 0x1E_D368_6580 ∷ 0x3C_53B0_4680 ∷ 0xA_DDA0_8480 ∷ 0x7B_EDE5_9280 ∷ 0x51_0AC5_9A00 ∷ 0x2F_1F49_5000 ∷ 0x16_D742_0780 ∷ 0x17_1A65_CE80 ∷ []
+unfolding factors_from factor bits bit
+four_words_factors = refl
+
+pub one_word_factors : factors_from 8
+    ≡ 0x24_9E3E_9380 ∷ 0x34_0196_6400 ∷ 0x77_9835_8C80 ∷ 0x1C_08B7_D600 ∷ 0x6E_A2D5_5C00 ∷ 0x52_A0C9_3F00 ∷ 0x9_D14C_3B80 ∷ 0x79_35C1_8180 ∷ []
+unfolding factors_from factor bits bit
+one_word_factors = refl

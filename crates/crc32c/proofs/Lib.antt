@@ -11,3 +11,5 @@ pub mod Sparse
 pub mod Span
 pub mod WindowLaws
 pub mod Start
+pub mod Chunks
+pub mod RestLaws

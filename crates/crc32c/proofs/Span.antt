@@ -1,8 +1,11 @@
 -- The laws of specs/Span.antt.
 -- Assumes nothing.
-use Rattle.std.specs.Prelude.{ℕ, zero, suc, ◌+◌, ◌*◌, ◌<◌, ◌≤◌, ◌≡◌, refl, List, length, get_or, drop, set, replicate}
-use Rattle.std.proofs.Common.{sym, ap, ap₂, ◌∙◌, add-zero, zero-add, add-one, arith, get_or-set_same, get_or-set_other}
-use Rattle.std.specs.Int.Bits.{bit_xor, xor_self}
+use Rattle.std.specs.Prelude.{ℕ, zero, suc, ◌+◌, ◌-◌, ◌*◌, ◌<◌, ◌≤◌, ◌≡◌, refl, List, [], ◌++◌, length, get_or, take, drop, set, replicate}
+use Rattle.std.proofs.Common.{sym, ap, ap₂, ◌∙◌, add-zero, zero-add, add-one, arith, get_or-set_same, get_or-set_other, get_or-drop, append-nil, length-append, length-drop, length-take-le, take-append-drop, drop_of_length-le}
+use Rattle.std.proofs.lemmas.List.{get_or-append_right, set-append_right}
+use borrow.Rule.Slice.PartMut.{put_mid}
+use Rattle.octets.proofs.Parts.{tail_all}
+use Rattle.std.specs.Int.Bits.{bit_xor, xor_self, xor_zero_l}
 use Rattle.std.proofs.lemmas.Nat.{xor_comm}
 use Rattle.crc32c.specs.Crc.{poly, bits, byte_step, crc_from}
 use Rattle.crc32c.proofs.Xor.{xor_assoc, xor_pairs, xor_swap}
@@ -61,6 +64,45 @@ add_turn o m w at d i h e hm =
     ∙ bits_xor poly 8 (bit_xor a y) (bit_xor b x)
     ∙ ap₂ (λ (j k : ℕ). bit_xor j k) (ap (λ (k : ℕ). span w at k) (sym (add-one i)))
     (ap (λ (k : ℕ). bits poly 8 (bit_xor b (get_or o k 0))) (sym (zero-add (d + i))) ∙ ap (λ (k : ℕ). span o 0 k) (sym n))
+
+-- a loop that adds to the bytes of a message from d on, which it has as a list of their own: i of them are added
+pub record Adds (o items w : List ℕ) (d i : ℕ) : Type 0 where
+  pub front : span (take d o ++ items) 0 (d + i) ≡ bit_xor (span w 0 i) (span o 0 (d + i))
+  pub behind : (n : ℕ) → i ≤ n → get_or items n 0 ≡ get_or o (d + n) 0
+
+pub adds_first : (o w : List ℕ) (d : ℕ) → Adds o (take (length o - d) (drop d o)) w d 0
+unfolding span
+adds_first o w d =
+    record {
+      front = rw (tail_all o d, take-append-drop) (sym (xor_zero_l (span o 0 (d + 0))));
+      behind = λ n h. rw (tail_all o d, get_or-drop);
+    }
+
+pub adds_next : (o items w : List ℕ) (d i : ℕ) → d ≤ length o → i < length items → Adds o items w d i
+    → Adds o (set items i (bit_xor (get_or items i 0) (get_or w i 0))) w d (i + 1)
+adds_next o items w d i h hi st =
+    let long : length (take d o) ≡ d = length-take-le d o h in
+    let place : d + i - d ≡ i = omega arith in
+    let room : d + i < length (take d o ++ items) = omega (arith, length-append (take d o) items) in
+    let here : get_or (take d o ++ items) (d + i) 0 ≡ get_or items i 0 =
+    get_or-append_right (take d o) items d (d + i) 0 long (omega arith) ∙ ap (λ (n : ℕ). get_or items n 0) place in
+    let v : ℕ = bit_xor (get_or items i 0) (get_or w i 0) in
+    let there : set (take d o ++ items) (d + i) v ≡ take d o ++ set items i v =
+    set-append_right (take d o) items d (d + i) v long (omega arith) ∙ ap (λ (n : ℕ). take d o ++ set items n v) place in
+    let turn = add_turn o (take d o ++ items) w 0 d i room (here ∙ st.behind i (omega arith)) st.front in
+    record {
+      front = rw (here, zero-add, there) at turn;
+      behind = λ n hn. get_or-set_other items i n v 0 (λ e. omega arith) ∙ st.behind n (omega arith);
+    }
+
+pub adds_last : (o items w : List ℕ) (d i k : ℕ) → d + k ≡ length o → length items ≡ k → k ≡ i → Adds o items w d i
+    → (length (put_mid d (length o - d) o items) ≡ length o)
+    × (span (put_mid d (length o - d) o items) 0 (length o) ≡ bit_xor (span w 0 k) (span o 0 (length o)))
+adds_last o items w d i k e hk hi st =
+    let none : drop (length o - d) (drop d o) ≡ [] = drop_of_length-le (drop d o) {i = length o - d} (omega (arith, length-drop d o)) in
+    let long : length (take d o) ≡ d = length-take-le d o (omega arith) in
+    let turn : span (take d o ++ items) 0 (d + k) ≡ bit_xor (span w 0 k) (span o 0 (d + k)) = rw hi st.front in
+    rw (none, append-nil) (omega (arith, length-append (take d o) items), rw e at turn)
 
 -- a message whole
 span_rest : (m : List ℕ) (i : ℕ) → i ≤ length m → crc_from (span m 0 i) (drop i m) ≡ crc_from 0 m

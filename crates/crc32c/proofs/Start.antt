@@ -17,7 +17,7 @@ use Rattle.crc32c.specs.Span.{span}
 use Rattle.crc32c.proofs.Span.{span_all}
 use Rattle.crc32c.specs.Window.{held}
 use Rattle.crc32c.proofs.WindowLaws.{Inside, sum_inside, held_same, taken_in, moved_held}
-use Rattle.crc32c.specs.Start.{reach_of, size_of}
+use Rattle.crc32c.specs.Start.{reach_of, size_of, inner_of}
 
 -- the places inside, of the near multiple and of the far one
 abbrev near_inner : List ℕ
@@ -47,6 +47,23 @@ far_byte : (s a b e : ℕ) → bit_xor (bit_xor (bit_xor s a) b) e ≡ bit_xor (
 far_byte s a b e =
     ap (λ (x : ℕ). bit_xor x e) (xor_assoc s a b ∙ ap (λ (x : ℕ). bit_xor s (bit_xor a x)) (sym (xor_zero_r b)))
 
+pub near_sum : (w : List ℕ) (i : ℕ)
+    → bit_xor (bit_xor (bit_xor (get_or w (i + 142) 0) (get_or w (i + 134) 0)) (get_or w (i + 62) 0)) (get_or w (i + 21) 0)
+    ≡ sum (λ k. get_or w (i + k) 0) (inner_of false)
+unfolding sum inner_of
+near_sum w i =
+    let a : ℕ = get_or w (i + 142) 0 in
+    let b : ℕ = get_or w (i + 134) 0 in
+    let c : ℕ = get_or w (i + 62) 0 in
+    let d : ℕ = get_or w (i + 21) 0 in
+    xor_assoc (bit_xor a b) c d
+    ∙ xor_assoc a b (bit_xor c d)
+    ∙ ap (λ (x : ℕ). bit_xor a (bit_xor b (bit_xor c x))) (sym (xor_zero_r d))
+
+pub far_sum : (w : List ℕ) (i : ℕ) → bit_xor (get_or w (i + 4508) 0) (get_or w (i + 2751) 0) ≡ sum (λ k. get_or w (i + k) 0) (inner_of true)
+unfolding sum inner_of
+far_sum w i = ap (λ (x : ℕ). bit_xor (get_or w (i + 4508) 0) x) (sym (xor_zero_r (get_or w (i + 2751) 0)))
+
 pub near_turn : (w s : List ℕ) (i : ℕ) → i < length s → i + 299 < length w → get_or w i 0 < 256
     → crc_from (held near
     (set w (i + 299) (bit_xor (bit_xor (bit_xor (bit_xor (bit_xor (get_or s i 0) (get_or w (i + 142) 0)) (get_or w (i + 134) 0)) (get_or w (i + 62) 0)) (get_or w (i + 21) 0)) (get_or w i 0)))
@@ -61,6 +78,14 @@ pub far_turn : (w s : List ℕ) (i : ℕ) → i < length s → i + 5275 < length
 unfolding sum
 far_turn w s i hs hw hb = taken_in 5275 far_inner far_inside far_multiple w s i _ hs hw (omega arith) hb
     (far_byte (get_or s i 0) (get_or w (i + 4508) 0) (get_or w (i + 2751) 0) (get_or w i 0))
+
+-- a byte taken in, of either
+pub turn : (far? : Bool) (w s : List ℕ) (i v : ℕ) → i < length s → i + size_of far? < length w → get_or w i 0 < 256
+    → v ≡ bit_xor (bit_xor (get_or s i 0) (sum (λ k. get_or w (i + k) 0) (inner_of far?))) (get_or w i 0)
+    → crc_from (held (reach_of far?) (set w (i + size_of far?) v) (i + 1)) (drop (i + 1) s) ≡ crc_from (held (reach_of far?) w i) (drop i s)
+unfolding reach_of size_of inner_of
+turn true w s i v hs hw hb e = taken_in 5275 far_inner far_inside far_multiple w s i v hs hw (omega arith) hb e
+turn false w s i v hs hw hb e = taken_in 299 near_inner near_inside near_multiple w s i v hs hw (omega arith) hb e
 
 -- the window at a place brought to the front
 pub moved : (far? : Bool) (v w : List ℕ) (by : ℕ) → ((n : ℕ) → n < size_of far? → get_or w n 0 ≡ get_or v (by + n) 0) → held (reach_of far?) w 0 ≡ held (reach_of far?) v by

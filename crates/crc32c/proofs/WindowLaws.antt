@@ -4,7 +4,7 @@ use Prim.Native.Nat.{ℕ, suc, ◌+◌, ◌-◌, ◌*◌, ◌^◌, ◌<◌, ◌�
 use Rattle.std.specs.Prelude.{◌≡◌, refl, length, take, drop}
 use Rattle.std.proofs.Math.Path.{sym, ap, ap₂}
 use Rattle.std.proofs.Common.{◌∙◌, ⊎_elim, zero-add, eq-or-lt_of_le, add-one, length-drop, take-append-drop, get_or-set_same, length-take-le, take_all, drop-drop}
-use mathlib.Core.List.{List, [], ◌∷◌}
+use mathlib.Core.List.{List, [], ◌∷◌, ◌++◌}
 use native.Mathlib.Omega.{arith}
 use Rattle.std.specs.Int.Bits.{bit_xor}
 use Rattle.std.proofs.Math.ListN.{get_or, set}
@@ -123,3 +123,11 @@ part_last reach u v s at hv =
     let d : List ℕ = drop at s in
     let all : take (length s - at) d ≡ d = take_all (length s - at) d (omega (arith, length-drop at s)) in
     ap (λ (n : ℕ). held reach v n) (sym (ap length all ∙ length-drop at s)) ∙ hv ∙ ap (λ (r : List ℕ). crc_from (held reach u 0) r) all
+
+-- the same where the loop goes over the parts themselves
+pub part_taken : (reach u v w rest part more : List ℕ) (n : ℕ) → rest ≡ part ++ more → length part ≡ n → held reach v (length part) ≡ crc_from (held reach u 0) part
+    → held reach w 0 ≡ held reach v n → crc_from (held reach w 0) more ≡ crc_from (held reach u 0) rest
+part_taken reach u v w rest part more n e l hv hw =
+    ap (λ (x : ℕ). crc_from x more) (hw ∙ ap (λ (k : ℕ). held reach v k) (sym l) ∙ hv)
+    ∙ sym (crc_from_append (held reach u 0) part more)
+    ∙ ap (λ (r : List ℕ). crc_from (held reach u 0) r) (sym e)

@@ -5,11 +5,12 @@
 use std::io;
 
 fn show(rt: &impl Print, name: &str, data: &[u8], expected: u32) -> io::Result<()> {
-    if crc32c::checksum(data) == expected {
-        println!(rt; "{name} ok")
+    let says = if crc32c::checksum(data) == expected {
+        "ok"
     } else {
-        println!(rt; "{name} differs")
-    }
+        "differs"
+    };
+    println!(rt; "{name} {says}")
 }
 
 fn main(rt: HostRuntime) -> io::Result<()> {

@@ -54,3 +54,9 @@ unfolding extended
 extended_zeros sum n h =
     let l : bit_xor sum ones < 2 ^ 32 = xor_lt 32 sum ones h (omega arith) in
     ap (λ (x : ℕ). bit_xor x ones) (crc_from_zeros (bit_xor sum ones) n ∙ sym (product_power (8 * n) (bit_xor sum ones) l))
+
+-- none of them is left
+pub zeros_done : (x m i n c : ℕ) → m ≡ 0 → bits poly (8 * (m * 2 ^ i)) x ≡ bits poly (8 * n) c → x ≡ bits poly (8 * n) c
+zeros_done x m i n c z same =
+    let e : 0 ≡ 8 * (0 * 2 ^ i) = omega arith in
+    sym (bits_none poly x) ∙ ap (λ (w : ℕ). bits poly w x) e ∙ ap (λ (w : ℕ). bits poly (8 * (w * 2 ^ i)) x) (sym z) ∙ same

@@ -49,11 +49,9 @@ pub fn times(x: u64, k: u64) -> u64
 {
     let mut left = x;
     let mut sum: u64 = 0;
-    let mut i: usize = 0;
-    while i < 32 {
+    for _ in 0..u32::BITS {
         sum = (sum / 2) ^ (sum % 2 * crc32c::POLYNOMIAL) ^ (left % 2 * k);
-        left = left / 2;
-        i += 1;
+        left /= 2;
     }
     sum
 }
@@ -63,16 +61,16 @@ fn zeros(c: u64, n: usize) -> u64
     requires { (c < 2 ^ 32) × (n < 2 ^ 32) }
     ensures { (result ≡ bits poly (8 * n) c) × (result < 2 ^ 32) }
 {
-    let powers = POWERS;
     let mut x = c;
     let mut m = n;
-    let mut j: usize = 0;
-    while m > 0 {
-        if m % 2 == 1 {
-            x = times(x, powers[j]);
+    for power in &POWERS {
+        if m == 0 {
+            break;
         }
-        m = m / 2;
-        j += 1;
+        if m % 2 == 1 {
+            x = times(x, *power);
+        }
+        m /= 2;
     }
     x
 }

@@ -1,11 +1,10 @@
 -- A whole map has just as many ids as were asked for, and lies in the bytes it was read from.
 -- Assumes nothing.
-use Rattle.std.specs.Prelude.{ℕ, zero, suc, ◌+◌, ◌*◌, ◌≤◌, ◌≡◌, refl, Bool, true, false, cond, ◌&&◌, List, [], ◌∷◌, ◌++◌, eqb, leb, ltb, length, get_or, take, drop}
+use Rattle.std.specs.Prelude.{ℕ, zero, suc, ◌+◌, ◌*◌, ◌≤◌, ◌≡◌, refl, Bool, true, false, cond, ◌&&◌, List, [], ◌∷◌, ◌++◌, eqb, leb, ltb, length, get_or, take, drop, Result, Ok, Err}
 use Rattle.std.proofs.Common.{sym, ◌∙◌, arith, length-append, length-drop, leb-true}
 use Rattle.octets.specs.le.Le.{le_of, le_at}
 use Rattle.answers.specs.limits.Limits.{max_vectors}
 use Rattle.varint.specs.declared.Varint.{Varint}
-use Rattle.varint.specs.declared.Varint.TheVariants.{Value, Refused as BadVarint}
 use Rattle.varint.specs.Varint.{read_varint}
 use Rattle.varint.proofs.Trip.{read_fits}
 use Rattle.idmap.specs.Encode.{left_after}
@@ -39,19 +38,19 @@ deltas_count start r zero left low at offs acc s e ids p =
     (rw q (omega arith), omega arith)
 deltas_count start r (suc n) left low at offs acc s e ids p = go (read_varint s) refl (λ l w a o c t. deltas_count start r n l w a o c t e ids) p
   where
-    go : (v : Varint) → read_varint s ≡ v
+    go : (v : Result Varint ℕ) → read_varint s ≡ v
         → ((l w a : ℕ) (o c t : List ℕ) → read_deltas start r n l w a o c t ≡ Whole e ids → (length ids ≡ length c + n) × (e ≤ start + a + length t))
         → elim v [
-          | BadVarint x ↦ Broken
-          | Value x k ↦ cond (id_held left low at offs x)
-              (read_deltas start r n (left_after r left) (suc (id_of left low x)) (at + k) (offs_behind left offs) (acc ++ (id_of left low x ∷ [])) (drop k s)) Broken
+          | Err x ↦ Broken
+          | Ok x ↦ cond (id_held left low at offs x.value)
+              (read_deltas start r n (left_after r left) (suc (id_of left low x.value)) (at + x.length) (offs_behind left offs) (acc ++ (id_of left low x.value ∷ [])) (drop x.length s)) Broken
         ]
         ≡ Whole e ids
         → (length ids ≡ length acc + suc n) × (e ≤ start + at + length s)
-    go (BadVarint x) h ih q = absurd (let z : ◌≡◌ {A = ℕ} 0 1 = cc in omega arith)
-    go (Value x k) h ih q =
-        let w = ih _ _ _ _ _ _ (passed (id_held left low at offs x) _ e ids q).1 in
-        (w.0 ∙ one_more acc (id_of left low x) n, omega (arith, w.1, length-drop k s, (read_fits s x k h).0))
+    go (Err x) h ih q = absurd (let z : ◌≡◌ {A = ℕ} 0 1 = cc in omega arith)
+    go (Ok x) h ih q =
+        let w = ih _ _ _ _ _ _ (passed (id_held left low at offs x.value) _ e ids q).1 in
+        (w.0 ∙ one_more acc (id_of left low x.value) n, omega (arith, w.1, length-drop x.length s, (read_fits s x.value x.length h).0))
 
 body_count : (encoding r count : ℕ) (s : List ℕ) (e : ℕ) (ids : List ℕ) → map_body encoding r count s ≡ Whole e ids → (length ids ≡ count) × (e ≤ length s)
 unfolding map_body raw_map delta_map

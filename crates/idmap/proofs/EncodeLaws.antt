@@ -1,6 +1,7 @@
 -- Laws of the id map as it is written: lengths, and where the writing loops stand.
 -- Assumes nothing.
-use Rattle.std.specs.Prelude.{ℕ, zero, suc, ◌+◌, ◌-◌, ◌*◌, ◌/◌, ◌≤◌, ◌<◌, ◌≡◌, refl, true, ◌&&◌, List, [], ◌∷◌, ◌++◌, leb, length, get_or, take, drop}
+use Rattle.std.specs.Prelude.{ℕ, zero, suc, ◌+◌, ◌-◌, ◌*◌, ◌/◌, ◌≤◌, ◌<◌, ◌≡◌, refl, true, ◌&&◌, List, [], ◌∷◌, ◌++◌, leb, length, get_or, take, drop, Some, None}
+use Rattle.std.specs.Prelude.{Option as Maybe}
 use Rattle.std.proofs.Common.{sym, ap, ◌∙◌, append_assoc, append-nil, add-one, arith, length-append, drop_of_length-le, drop-cons, take-suc, leb-true}
 use Rattle.std.proofs.Math.Nat.{add-div_right, div-eq_of_lt}
 use Rattle.octets.proofs.ZeroLaws.{and_split}
@@ -10,7 +11,6 @@ use Rattle.varint.specs.Varint.{varint_of}
 use Rattle.idmap.specs.Encode.{map_head, raw_ids, delta_of, left_after, deltas, restart_of, restarts, rises_from}
 use Rattle.idmap.specs.Decode.{groups}
 use Rattle.idmap.specs.DecodeLaws.{low_of}
-use Rattle.idmap.proofs.DecodeLaws.{low_more, low_some}
 
 pub length_head : (encoding r count : ℕ) → length (map_head encoding r count) ≡ 7
 unfolding map_head
@@ -62,12 +62,20 @@ length_restarts r ids h =
     let e : length ids + (r - 1) - 0 ≡ length ids + (r - 1) = omega arith in
     rw e at (restarts_length r 0 0 0 ids h h)
 
+-- the id before the next, where i are passed and prev is the last of them
+abbrev pub behind : ℕ → ℕ → Maybe ℕ
+behind zero prev = None
+behind (suc i) prev = Some prev
+
+behind_some : (i prev : ℕ) → 0 < i → behind i prev ≡ Some prev
+behind_some i prev h = let l : i ≡ suc (i - 1) = omega arith in rw l
+
 -- ---- where a loop over the ids stands: i are passed, the last of them prev; left more of the group follow
 
 pub record IdsAt (ids : List ℕ) (i left prev : ℕ) : Type 0 where
   pub at_most : i ≤ length ids
   pub first : i ≡ 0 → left ≡ 0
-  pub up : rises_from (low_of i prev) (drop i ids) ≡ true
+  pub up : rises_from (low_of (behind i prev)) (drop i ids) ≡ true
 
 pub ids_first : (ids : List ℕ) → rises_from 0 ids ≡ true → IdsAt ids 0 0 0
 ids_first ids h = record { at_most = omega arith; first = λ z. refl; up = h }
@@ -77,18 +85,18 @@ unfolding rises_from
 rises_cons low ids i h = rw (drop-cons ids i 0 h)
 
 module _ (ids : List ℕ) (i left prev : ℕ) (st : IdsAt ids i left prev) (h : i < length ids) where
-  parts : (leb (low_of i prev) (get_or ids i 0) ≡ true) × (rises_from (suc (get_or ids i 0)) (drop (suc i) ids) ≡ true)
-  parts = and_split _ _ (sym (rises_cons (low_of i prev) ids i h) ∙ st.up)
+  parts : (leb (low_of (behind i prev)) (get_or ids i 0) ≡ true) × (rises_from (suc (get_or ids i 0)) (drop (suc i) ids) ≡ true)
+  parts = and_split _ _ (sym (rises_cons (low_of (behind i prev)) ids i h) ∙ st.up)
 
   pub ids_next : (left' : ℕ) → IdsAt ids (i + 1) left' (get_or ids i 0)
-  ids_next left' = record { at_most = omega arith; first = λ z. absurd (omega arith); up = rw (low_more, add-one) parts.1 }
+  ids_next left' = record { at_most = omega arith; first = λ z. absurd (omega arith); up = rw add-one (rw add-one parts.1) }
 
   -- a difference is taken of an id that is not below the one before
   pub ids_above : (left ≡ 0 → ⊥) → prev ≤ get_or ids i 0
   ids_above q =
       let some : i ≡ 0 → ⊥ = λ z. q (st.first z) in
-      let k : leb (suc prev) (get_or ids i 0) ≡ true = rw (low_some i prev (omega arith)) at parts.0 in
-      omega (arith, leb-true (suc prev) (get_or ids i 0) k)
+      let k : leb (prev + 1) (get_or ids i 0) ≡ true = rw (behind_some i prev (omega arith)) at parts.0 in
+      omega (arith, leb-true (prev + 1) (get_or ids i 0) k)
 
 -- one id more, of what is written of them
 pub deltas_cons : (r left prev i : ℕ) (ids : List ℕ) → i < length ids

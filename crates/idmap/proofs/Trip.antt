@@ -5,8 +5,7 @@ use Rattle.std.proofs.Common.{sym, ap, ap₂, ◌∙◌, append_assoc, append-ni
 use Rattle.std.proofs.lemmas.Bool.{eqb-false}
 use Rattle.octets.specs.le.Le.{le_of, le_bytes}
 use Rattle.octets.proofs.le.Laws.{length_le_bytes, le_of_le_bytes}
-use Rattle.varint.specs.declared.Varint.TheVariants.{Value}
-use Rattle.varint.specs.Varint.{varint_of, read_varint}
+use Rattle.varint.specs.Varint.{varint_of, read_as, read_varint}
 use Rattle.varint.proofs.Trip.{read_varint_of, varint_short}
 use Rattle.idmap.specs.Encode.{map_head, raw_ids, delta_of, left_after, deltas, restart_of, restarts, interval_of, map_bytes, rises_from, map_bad}
 use Rattle.idmap.specs.Decode.{Whole, read_raw, raw_map, id_of, id_held, offs_behind, read_deltas, groups, delta_map, map_body, map_of}
@@ -84,7 +83,7 @@ delta_trip start r left low prev at acc (x ∷ xs) o s up w k small =
     let n : ℕ = length (varint_of (delta_of left prev x)) in
     let tail : List ℕ = deltas r (left_after r left) x xs in
     let offs : List ℕ = restarts r (left_after r left) x (at + length (varint_of (delta_of left prev x))) xs in
-    let v : read_varint ((varint_of d ++ tail) ++ s) ≡ Value d n = rw (append_assoc (varint_of d) tail s) (read_varint_of d (tail ++ s) (delta_lt left prev x (w 0))) in
+    let v : read_varint ((varint_of d ++ tail) ++ s) ≡ read_as d n = rw (append_assoc (varint_of d) tail s) (read_varint_of d (tail ++ s) (delta_lt left prev x (w 0))) in
     let h = one_held left low prev at x ((restart_of left at ++ offs) ++ o) k (leb-true low x u.0) (w 0) (restart_front left at offs o (omega arith)) in
     let short = varint_short d in
     let e : start + (at + n) + length tail ≡ start + at + length (varint_of d ++ tail) = simp length-append (omega arith) in

@@ -1,13 +1,10 @@
 -- The id map as it is read: what the bytes at the front of a list say, for all bytes. Every rule of document 01 that they
 -- break makes the map broken, which is refusal 5.
 -- Assumes nothing.
-use Rattle.std.specs.Prelude.{ℕ, zero, suc, ◌+◌, ◌-◌, ◌*◌, ◌/◌, ◌^◌, Bool, cond, ◌&&◌, List, [], ◌∷◌, ◌++◌, eqb, leb, ltb, length, get_or, take, drop}
+use Rattle.std.specs.Prelude.{ℕ, zero, suc, ◌+◌, ◌-◌, ◌*◌, ◌/◌, ◌^◌, Bool, cond, ◌&&◌, List, [], ◌∷◌, ◌++◌, eqb, leb, ltb, length, get_or, take, drop, Result, Ok, Err}
 use Rattle.octets.specs.Over.{over}
 use Rattle.octets.specs.le.Le.{le_of, le_at}
 use Rattle.answers.specs.limits.Limits.{max_vectors}
-use Rattle.answers.specs.declared.Wrote.{Wrote}
-use Rattle.answers.specs.declared.Wrote.TheVariants.{Length, Refused}
-use Rattle.varint.specs.declared.Varint.TheVariants.{Value, Refused as BadVarint}
 use Rattle.varint.specs.Varint.{read_varint}
 use Rattle.idmap.specs.Encode.{left_after}
 
@@ -48,9 +45,9 @@ unfoldable pub read_deltas : ℕ → ℕ → ℕ → ℕ → ℕ → ℕ → Lis
 read_deltas start r zero left low at offs acc s = Whole (start + at) acc
 read_deltas start r (suc n) left low at offs acc s =
     elim (read_varint s) [
-      | BadVarint e ↦ Broken
-      | Value v k ↦ cond (id_held left low at offs v)
-          (read_deltas start r n (left_after r left) (suc (id_of left low v)) (at + k) (offs_behind left offs) (acc ++ (id_of left low v ∷ [])) (drop k s))
+      | Err e ↦ Broken
+      | Ok v ↦ let x = id_of left low v.value in cond (id_held left low at offs v.value)
+          (read_deltas start r n (left_after r left) (suc x) (at + v.length) (offs_behind left offs) (acc ++ (x ∷ [])) (drop v.length s))
           Broken
     ]
 
@@ -83,14 +80,14 @@ ids_of (Whole n ids) = ids
 ids_of Broken = []
 
 -- what a check of the map answers: its length, or 5
-unfoldable pub map_answer : MapRead → Wrote
-map_answer (Whole n ids) = Length n
-map_answer Broken = Refused 5
+unfoldable pub map_answer : MapRead → Result ℕ ℕ
+map_answer (Whole n ids) = Ok n
+map_answer Broken = Err 5
 
 -- the id-map reader: every rule 5, then 9 where the ids have no room; on a refusal the ids' buffer is as it was
-unfoldable pub read_answer : MapRead → List ℕ → Wrote
-read_answer (Whole n ids) buf = cond (leb (length ids) (length buf)) (Length n) (Refused 9)
-read_answer Broken buf = Refused 5
+unfoldable pub read_answer : MapRead → List ℕ → Result ℕ ℕ
+read_answer (Whole n ids) buf = cond (leb (length ids) (length buf)) (Ok n) (Err 9)
+read_answer Broken buf = Err 5
 
 unfoldable pub read_buffer : MapRead → List ℕ → List ℕ
 read_buffer (Whole n ids) buf = cond (leb (length ids) (length buf)) (over buf 0 ids) buf

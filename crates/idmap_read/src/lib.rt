@@ -5,55 +5,43 @@
 pub mod decode;
 pub mod delta;
 
-ghost use Rattle.std.specs.Prelude.{◌≡◌, ◌≤◌, length, take};
-ghost use Rattle.octets.specs.Over.{over};
+ghost use Rattle.std.specs.Prelude.{◌≡◌, ◌≤◌, length};
+ghost use Rattle.answers.specs.Answer.{numbered};
 ghost use Rattle.idmap.specs.Decode.{map_of, read_answer, read_buffer};
 ghost use Rattle.answers.specs.limits.Limits.{max_vectors};
 
-use answers::Wrote;
-
-// The first n numbers of a list at the front of another.
-fn copy_ids(ids: &mut [u64], from: &[u64], n: usize)
-    requires { (n ≤ length from.now) × (n ≤ length ids.old) }
-    ensures { ids.new ≡ over ids.old 0 (take n from.now) }
-{
-    let mut i: usize = 0;
-    while i < n {
-        ids[i] = from[i];
-        i += 1;
-    }
-}
+use answers::Refusal;
 
 // A map of a count within bounds. Its ids go through a list of our own, since a map that is refused must leave the
 // lent one as it was.
-fn read_through(s: &[u8], count: usize, ids: &mut [u64], scratch: &mut [u64]) -> Wrote
+fn read_through(
+    s: &[u8],
+    count: usize,
+    ids: &mut [u64],
+    scratch: &mut [u64],
+) -> Result<usize, Refusal>
     requires { (1 ≤ count) × ((count ≤ max_vectors) × (count ≤ length scratch.old)) }
-    ensures answer { result ≡ read_answer (map_of count s.now) ids.old }
+    ensures answer { numbered result ≡ read_answer (map_of count s.now) ids.old }
     ensures ids { ids.new ≡ read_buffer (map_of count s.now) ids.old }
 {
-    let m = crate::decode::decode(s, count, scratch);
-    match m {
-        Wrote::Refused(number) => Wrote::Refused(number),
-        Wrote::Length(n) => {
-            if ids.len() < count {
-                return Wrote::Refused(9);
-            }
-            copy_ids(ids, scratch, count);
-            Wrote::Length(n)
-        }
+    let n = crate::decode::decode(s, count, scratch)?;
+    if ids.len() < count {
+        return Err(Refusal::NoRoom);
     }
+    ids[..count].copy_from_slice(&scratch[..count]);
+    Ok(n)
 }
 
 // A short map takes a short list, so that it does not pay for a long one.
-pub fn read(s: &[u8], count: u64, ids: &mut [u64]) -> Wrote
-    ensures answer { result ≡ read_answer (map_of count s.now) ids.old }
+pub fn read(s: &[u8], count: u64, ids: &mut [u64]) -> Result<usize, Refusal>
+    ensures answer { numbered result ≡ read_answer (map_of count s.now) ids.old }
     ensures ids { ids.new ≡ read_buffer (map_of count s.now) ids.old }
 {
     if count < 1 {
-        return Wrote::Refused(5);
+        return Err(Refusal::Layout);
     }
     if count > answers::limits::MAX_VECTORS as u64 {
-        return Wrote::Refused(5);
+        return Err(Refusal::Layout);
     }
     let n = count as usize;
     if n <= 64 {

@@ -20,11 +20,8 @@ pub fn put_raw(buf: &mut [u8], ids: &[u64])
     requires { 7 + 8 * length ids.now ≤ length buf.old }
     ensures { buf.new ≡ over buf.old 7 (raw_ids ids.now) }
 {
-    let mut i: usize = 0;
-    while i < ids.len() {
-        let x = ids[i];
+    for (i, &x) in ids.iter().enumerate() {
         octets::le::put(buf, 7 + 8 * i, 8, x);
-        i += 1;
     }
 }
 
@@ -60,16 +57,13 @@ pub fn deltas_len(ids: &[u64], r: usize) -> usize
     requires { (length ids.now ≤ max_vectors) × ((0 < r) × (rises_from 0 ids.now ≡ true)) }
     ensures { (result ≡ length (deltas r 0 0 ids.now)) × (result ≤ 10 * length ids.now) }
 {
-    let mut i: usize = 0;
     let mut left: usize = 0;
     let mut prev: u64 = 0;
     let mut total: usize = 0;
-    while i < ids.len() {
-        let x = ids[i];
+    for &x in ids {
         total += delta_len(left, prev, x);
         left = idmap_read::delta::left_after(r, left);
         prev = x;
-        i += 1;
     }
     total
 }
@@ -95,18 +89,15 @@ pub fn put_deltas(buf: &mut [u8], ids: &[u64], r: usize, start: usize)
     ensures { buf.new ≡ over buf.old 7
         (restarts r 0 0 0 ids.now ++ deltas r 0 0 ids.now) }
 {
-    let mut i: usize = 0;
     let mut left: usize = 0;
     let mut prev: u64 = 0;
     let mut place: usize = 7;
     let mut pos = start;
-    while i < ids.len() {
-        let x = ids[i];
+    for &x in ids {
         let d = delta(left, prev, x);
         place = put_restart(buf, place, left, pos - start);
         left = idmap_read::delta::left_after(r, left);
         pos = varint::write::put(buf, pos, d);
         prev = x;
-        i += 1;
     }
 }

@@ -1,20 +1,20 @@
-// The number that a list of ids, an encoding and an interval are refused with.
+// Whether a list of ids, an encoding and an interval may be written.
 ghost use Rattle.std.specs.Prelude.{◌≡◌, ◌<◌};
+ghost use Rattle.answers.specs.Answer.{refused_by};
 ghost use Rattle.idmap.specs.Encode.{interval_held, rises_from, map_bad};
+
+use answers::Refusal;
 
 // Whether ids rise strictly.
 fn rising(ids: &[u64]) -> bool
     ensures { result ≡ rises_from 0 ids.now }
 {
-    let mut i: usize = 0;
-    let mut prev: u64 = 0;
-    while i < ids.len() {
-        let x = ids[i];
-        if !octets::numbers::follows(i, prev, x) {
+    let mut prev: Option<u64> = None;
+    for &x in ids {
+        if !octets::numbers::follows(prev, x) {
             return false;
         }
-        prev = x;
-        i += 1;
+        prev = Some(x);
     }
     true
 }
@@ -32,21 +32,22 @@ fn interval_held(encoding: u64, interval: u64) -> bool
     false
 }
 
-// 14 where the input breaks a rule, else 0.
-pub fn refusal(ids: &[u64], encoding: u64, interval: u64) -> u32
-    ensures { result ≡ map_bad ids.now encoding interval }
+// 14 where the input breaks a rule.
+// Kept: an encoding is any number, since C may hand over any: `rvf_idmap_write` promises 14 for those that are none.
+pub fn check(ids: &[u64], encoding: u64, interval: u64) -> Result<(), Refusal>
+    ensures { refused_by result ≡ map_bad ids.now encoding interval }
 {
     if ids.len() < 1 {
-        return 14;
+        return Err(Refusal::Input);
     }
     if ids.len() > answers::limits::MAX_VECTORS {
-        return 14;
+        return Err(Refusal::Input);
     }
     if !interval_held(encoding, interval) {
-        return 14;
+        return Err(Refusal::Input);
     }
-    if rising(ids) {
-        return 0;
+    if !rising(ids) {
+        return Err(Refusal::Input);
     }
-    14
+    Ok(())
 }

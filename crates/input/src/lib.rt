@@ -16,6 +16,7 @@ pub fn read_full<R: Read>(reader: &mut R, buf: &mut [u8]) -> io::Result<usize>
     ensures end { IfOk result (λ n. n < length buf.old → IsAtEnd (R.remaining reader.new)) }
 {
     let mut filled = 0;
+    // Kept: a plain `loop` is not seen to end, since a read may be interrupted any number of times.
     for _ in 0..u64::MAX {
         if filled >= buf.len() {
             return Ok(filled);
@@ -23,11 +24,8 @@ pub fn read_full<R: Read>(reader: &mut R, buf: &mut [u8]) -> io::Result<usize>
         match reader.read(&mut buf[filled..]) {
             Ok(0) => return Ok(filled),
             Ok(n) => filled += n,
-            Err(e) => {
-                if e.kind() != ErrorKind::Interrupted {
-                    return Err(e);
-                }
-            }
+            Err(e) if e.kind() == ErrorKind::Interrupted => {}
+            Err(e) => return Err(e),
         }
     }
     Err(io::Error::from(ErrorKind::Interrupted))

@@ -1,13 +1,13 @@
 // The lister's lines of a manifest's directory.
 ghost use Rattle.std.specs.Prelude.{◌+◌, ◌*◌, ◌≤◌, length};
 ghost use Rattle.octets.specs.text.Written.{Written};
-ghost use Rattle.segment.specs.index.Offsets.{most};
 ghost use Rattle.manifest.specs.Opening.{opened};
-ghost use Rattle.opening.specs.Indexed.{ManifestAt, Indexed};
 ghost use Rattle.reading.specs.Listing.{state_word};
 ghost use Rattle.listing.specs.line.Lines.{text_line_at};
 ghost use Rattle.listing.specs.entries.Entries.{entry_lines};
 ghost use Rattle.segment.specs.Header.{length_at};
+
+use opening::directory::Directory;
 
 // The line of an entry with a state.
 fn put_entry(text: &mut [u8], at: usize, file: &[u8], p: usize, state: u8) -> usize
@@ -23,37 +23,22 @@ fn put_entry(text: &mut [u8], at: usize, file: &[u8], p: usize, state: u8) -> us
     crate::line::put_segment(text, at, file, p, b"retired")
 }
 
-// The lines of all entries of the directory.
-pub fn put_entries(
-    text: &mut [u8],
-    at: usize,
-    file: &[u8],
-    offsets: &[u64],
-    manifest: usize,
-    count: usize,
-) -> usize
-    requires most_in_bounds { (most ≤ length offsets.now) × (at + 97 * count ≤ length text.old) }
-    requires indexed { Indexed file.now offsets.now }
-    requires manifest_at { ManifestAt file.now manifest count }
+// The lines of all entries of a directory.
+pub fn put_entries(text: &mut [u8], at: usize, directory: &Directory) -> usize
+    requires { at + 97 * directory.now.manifest.count ≤ length text.old }
     ensures text { Written text.old text.new at
-        (entry_lines (opened file.now)) result }
-    ensures bound { result ≤ at + 97 * count }
+        (entry_lines (opened directory.now.file.now)) result }
+    ensures bound { result ≤ at + 97 * directory.now.manifest.count }
 {
     let mut end = at;
-    let mut i: usize = 0;
-    while i < count {
-        let p = offsets[i] as usize;
+    for i in 0..directory.manifest.count {
         end = put_entry(
             text,
             end,
-            file,
-            p,
-            file[manifest
-                + manifest::fields::ENTRIES
-                + manifest::fields::ENTRY_SIZE * i
-                + manifest::fields::STATE],
+            directory.file,
+            directory.place(i),
+            directory.state(i),
         );
-        i += 1;
     }
     end
 }

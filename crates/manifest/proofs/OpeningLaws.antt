@@ -1,6 +1,6 @@
 -- What a reading call answers on two files that open alike, and the cases of opening.
 -- Assumes nothing.
-use Rattle.std.specs.Prelude.{ℕ, ◌≤◌, ◌<◌, ◌≡◌, List, length}
+use Rattle.std.specs.Prelude.{ℕ, ◌≤◌, ◌<◌, ◌≡◌, List, length, Ok, Err}
 use Rattle.std.proofs.Common.{sym, ap, ◌∙◌, le-leb}
 use Rattle.std.proofs.Math.Option.{Option}
 use Rattle.std.proofs.lemmas.Bool.{lt-leb}
@@ -8,7 +8,6 @@ use Rattle.answers.specs.limits.Limits.{max_file}
 use Rattle.segment.specs.chain.Chain.{Found}
 use Rattle.segment.specs.Header.{Link}
 use Rattle.manifest.specs.Opening.{opened, at_opened, found_case, opened_case, opened_answer, open_answer}
-use Rattle.manifest.specs.declared.Opened.TheVariants.{Refused}
 
 -- a reading call answers alike on two files that open alike
 
@@ -25,6 +24,6 @@ module _ {A : Type 0} (one : A) (g : Option (Found Link) → A) where
   answers_alike f f' h h' e = at_within f h ∙ ap g e ∙ sym (at_within f' h')
 
 -- opening's answer within the limit
-pub open_within : (f : List ℕ) → length f ≤ max_file → open_answer f ≡ opened_answer (found_case f (opened f))
+pub open_within : (f : List ℕ) → length f ≤ max_file → open_answer f ≡ opened_answer (Ok (found_case f (opened f)))
 unfolding open_answer opened_case
-open_within f h = ap opened_answer (at_within (Refused 1) (found_case f) f h)
+open_within f h = ap opened_answer (at_within (Err 1) (λ o. Ok (found_case f o)) f h)

@@ -1,7 +1,7 @@
 -- What opening finds and answers: the file's manifest, which is the last confirmed link of the chain from byte 0; and the number
 -- of boundaries that the search from the end tries. Definitions only.
 -- Assumes nothing.
-use Rattle.std.specs.Prelude.{ℕ, ◌+◌, ◌-◌, ◌/◌, cond, List, [], ◌∷◌, leb, length, drop, set}
+use Rattle.std.specs.Prelude.{ℕ, ◌+◌, ◌-◌, ◌/◌, cond, List, [], ◌∷◌, leb, length, drop, set, Result, Ok, Err}
 use Rattle.std.proofs.Math.Option.{Option, none, some}
 use Rattle.std.proofs.lemmas.List.Edits.{sets}
 use Rattle.answers.specs.Answer.{Answer, Accepted, Refusal}
@@ -10,7 +10,7 @@ use Rattle.segment.specs.chain.Chain.{Found, open_of}
 use Rattle.segment.specs.Header.{Link, size, start, reader}
 use Rattle.manifest.specs.Payload.{confirmed, states_in}
 use Rattle.manifest.specs.declared.Opened.{Opened}
-use Rattle.manifest.specs.declared.Opened.TheVariants.{At, NoManifest, Refused}
+use Rattle.manifest.specs.declared.Opened.TheVariants.{At, NoManifest}
 
 -- 'The file's manifest is the last confirmed one', with the links before it
 unfoldable pub opened : List ℕ → Option (Found Link)
@@ -34,14 +34,14 @@ unfoldable pub found_case : List ℕ → Option (Found Link) → Opened
 found_case f none = NoManifest (tried f none)
 found_case f (some r) = At r.link.offset (r.link.offset + size r.link) r.link.id (length r.before) (tried f (some r))
 
-unfoldable pub opened_case : List ℕ → Opened
-opened_case f = at_opened (Refused 1) (found_case f) f
+unfoldable pub opened_case : List ℕ → Result Opened ℕ
+opened_case f = at_opened (Err 1) (λ o. Ok (found_case f o)) f
 
 -- the number and the values of each case; 'opening's 2 also the boundaries tried'
-unfoldable pub opened_answer : Opened → Answer
-opened_answer (At offset end id count t) = Accepted (offset ∷ end ∷ id ∷ count ∷ t ∷ [])
-opened_answer (NoManifest t) = Refusal 2 (t ∷ [])
-opened_answer (Refused n) = Refusal n []
+unfoldable pub opened_answer : Result Opened ℕ → Answer
+opened_answer (Ok (At offset end id count t)) = Accepted (offset ∷ end ∷ id ∷ count ∷ t ∷ [])
+opened_answer (Ok (NoManifest t)) = Refusal 2 (t ∷ [])
+opened_answer (Err n) = Refusal n []
 
 -- what opening answers about a file
 unfoldable pub open_answer : List ℕ → Answer

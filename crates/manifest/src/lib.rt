@@ -4,8 +4,8 @@
 pub mod fields;
 
 // What opening a file answers: its manifest's offset, end and id, the number of its entries and the boundaries tried;
-// or no manifest with the boundaries tried; or the number of a refusal.
-#[derive(Drop)]
+// or no manifest with the boundaries tried.
+#[derive(Clone, Copy)]
 pub enum Opened {
     At {
         offset: usize,
@@ -17,23 +17,17 @@ pub enum Opened {
     NoManifest {
         tried: usize,
     },
-    Refused(u32),
 }
 
-// What the directory has at an index: the fields of the entry, the hash as two numbers; or no entry; or the number of
-// a refusal.
-#[derive(Drop)]
-pub enum DirectoryEntry {
-    Of {
-        offset: u64,
-        id: u64,
-        length: u64,
-        hash_low: u64,
-        hash_high: u64,
-        kind: u8,
-        state: u8,
-        flags: u16,
-    },
-    NoEntry,
-    Refused(u32),
+// What the directory has at an index: the fields of the entry, the hash as two numbers.
+#[derive(Clone, Copy)]
+pub struct DirectoryEntry {
+    pub offset: u64,
+    pub id: u64,
+    pub length: u64,
+    pub hash_low: u64,
+    pub hash_high: u64,
+    pub kind: u8,
+    pub state: u8,
+    pub flags: u16,
 }

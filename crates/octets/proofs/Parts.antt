@@ -54,3 +54,13 @@ unfolding over
 cleared buf ys from to h k p =
     let n : length (take (to - from) (drop from buf)) ≡ to - from = length-take-le (to - from) (drop from buf) (omega (arith, length-drop from buf)) in
     rw (p, n, length-replicate, drop-drop)
+
+-- a part that came back with a list over all of it
+pub back_whole : (xs : List ℕ) (a k n : ℕ) (ys b : List ℕ) → ys ≡ over (take n (drop a xs)) 0 b → length b ≡ k → n ≡ k → a + k ≤ length xs
+    → put_mid a n xs ys ≡ over xs a b
+unfolding over
+back_whole xs a k n ys b p l e h =
+    let whole : length (take n (drop a xs)) ≡ n = length-take-le n (drop a xs) (omega (arith, length-drop a xs)) in
+    let none : drop (0 + length b) (take n (drop a xs)) ≡ [] = drop_of_length-le (take n (drop a xs)) {i = 0 + length b} (omega arith) in
+    let n_is : n ≡ length b = omega arith in
+    rw (p, none, append-nil, n_is, drop-drop)

@@ -4,6 +4,7 @@ use Rattle.std.specs.Prelude.{◌≡◌, refl, Bool, true, false, ◌&&◌, ℕ,
 use Rattle.std.proofs.Common.{ap, drop_of_length-le, eqb-true, eq-eqb, ne_eqb, arith, drop-cons}
 use Rattle.std.proofs.lemmas.Bool.{false≢true, eqb-false}
 use Rattle.std.proofs.Math.Bool.{and_assoc, and-true}
+use Rattle.std.specs.Cmp.Lexicographic.{pointwise}
 use Rattle.octets.specs.Zero.{all_zero, same_bytes}
 use Rattle.std.specs.Int.Bits.{bit_or, or_add_and, bit_xor, xor_add_and, xor_self}
 use Rattle.std.proofs.lemmas.Nat.{and_le_l, and_le_r}
@@ -57,6 +58,14 @@ same_length xs ys h = pick (same_bytes xs ys) refl
     pick : (t : Bool) → same_bytes xs ys ≡ t → t ≡ false
     pick true e = absurd (h (ap length (same_equal xs ys e)))
     pick false e = refl
+
+-- the language's own test of two slices
+pub same_pointwise : (xs ys : List ℕ) → pointwise eqb xs ys ≡ same_bytes xs ys
+unfolding same_bytes
+same_pointwise [] [] = refl
+same_pointwise [] (y ∷ ys) = refl
+same_pointwise (x ∷ xs) [] = refl
+same_pointwise (x ∷ xs) (y ∷ ys) = ap (λ (t : Bool). eqb x y && t) (same_pointwise xs ys)
 
 -- ---- gathering by `or`: a sum of bits is zero where each part is
 

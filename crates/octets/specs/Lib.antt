@@ -5,3 +5,4 @@ pub mod Zero
 pub mod le
 pub mod text
 pub mod numbers
+pub mod Options

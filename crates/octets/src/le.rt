@@ -9,11 +9,9 @@ pub fn number_at(s: &[u8], at: usize, k: usize) -> u64
     requires { (at + k ≤ length s.now) × (k ≤ 8) }
     ensures { (result ≡ le_at k s.now at) × (result < 256 ^ k) }
 {
-    let mut i = k;
     let mut r: u64 = 0;
-    while i > 0 {
-        i -= 1;
-        r = r * 256 + s[at + i] as u64;
+    for b in s[at..at + k].iter().rev() {
+        r = r * 256 + u64::from(*b);
     }
     r
 }
@@ -45,11 +43,9 @@ pub fn put(s: &mut [u8], at: usize, k: usize, x: u64)
     requires { at + k ≤ length s.old }
     ensures { s.new ≡ over s.old at (le_bytes k x) }
 {
-    let mut i: usize = 0;
     let mut rest = x;
-    while i < k {
-        s[at + i] = (rest % 256) as u8;
-        rest = rest / 256;
-        i += 1;
+    for b in s[at..at + k].iter_mut() {
+        *b = (rest % 256) as u8;
+        rest /= 256;
     }
 }

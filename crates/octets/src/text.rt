@@ -1,4 +1,6 @@
 // Text written into a buffer at a place; each function answers the place behind what it wrote.
+// Kept: the buffer is the caller's, there is no heap. A struct that lends it would have each contract speak of a lent buffer
+// within a lent struct, where `Written` says old, new, place and end (no plainer).
 ghost use Rattle.std.specs.Prelude.{◌+◌, ◌≤◌, ◌++◌, length};
 ghost use Rattle.octets.specs.text.Text.{decimal};
 ghost use Rattle.octets.specs.text.Written.{Written};

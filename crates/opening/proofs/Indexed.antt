@@ -8,7 +8,7 @@ use mathlib.Core.List.{List, [], ◌∷◌, ◌++◌}
 use native.Mathlib.Omega.{arith}
 use Rattle.std.proofs.Math.Decide.{dec_le}
 use Rattle.std.proofs.Math.ListN.{length, get_or, length-map}
-use Rattle.std.specs.Prelude.{take, drop}
+use Rattle.std.specs.Prelude.{take, drop, Result, Ok, Err}
 use Rattle.std.proofs.Math.Seq.{get_or-take, get_or-drop}
 use Rattle.octets.specs.le.Le.{Bytes}
 use Rattle.answers.specs.limits.Limits.{max_file, max_entries}
@@ -30,74 +30,76 @@ use Rattle.manifest.proofs.OpeningLaws.{at_long, at_within}
 use Rattle.manifest.proofs.At.{length_payload_at, record_ge}
 use Rattle.manifest.proofs.Lying.{lying_inside, payload_lying, chain_lying}
 use Rattle.manifest.specs.declared.Opened.{Opened}
-use Rattle.manifest.specs.declared.Opened.TheVariants.{At, NoManifest, Refused}
+use Rattle.manifest.specs.declared.Opened.TheVariants.{At, NoManifest}
 use Rattle.opening.proofs.CandidateLaws.{front_offsets}
-use Rattle.opening.specs.Indexed.{ManifestAt, Indexed}
+use Rattle.opening.specs.Indexed.{ManifestAt, Indexed, stands}
+use Rattle.std.specs.Prelude.{true, eqb}
+use borrow.Author.Tests.{eq-eqb, eqb-true}
+use Rattle.octets.proofs.ZeroLaws.{and_split}
 
 -- ---- what an answer says
 
 module _ (f : List ℕ) where
-  long-case : max_file < length f → opened_case f ≡ Refused 1
+  long-case : max_file < length f → opened_case f ≡ Err 1
   unfolding opened_case
-  long-case h = at_long (Refused 1) (found_case f) f h
+  long-case h = at_long (Err 1) (λ o. Ok (found_case f o)) f h
 
-  within-case : length f ≤ max_file → opened_case f ≡ found_case f (opened f)
+  within-case : length f ≤ max_file → opened_case f ≡ Ok (found_case f (opened f))
   unfolding opened_case
-  within-case h = at_within (Refused 1) (found_case f) f h
+  within-case h = at_within (Err 1) (λ o. Ok (found_case f o)) f h
 
   -- a refusal is that of a file above the limit
-  pub opened_refused : (n : ℕ) → opened_case f ≡ Refused n → (n ≡ 1) × (max_file < length f)
-  unfolding found_case
+  pub opened_refused : (n : ℕ) → opened_case f ≡ Err n → (n ≡ 1) × (max_file < length f)
   opened_refused n e = go (dec_le (length f) max_file)
     where
-      never : (o : Option (Found Link)) → found_case f o ≡ Refused n → ⊥
-      never none q = let z : ◌≡◌ {A = ℕ} 0 1 = cc in omega arith
-      never (some r) q = let z : ◌≡◌ {A = ℕ} 0 1 = cc in omega arith
-
       go : Dec (length f ≤ max_file) → (n ≡ 1) × (max_file < length f)
-      go (yes h) = absurd (never (opened f) (sym (within-case h) ∙ e))
+      go (yes h) =
+          let q : ◌≡◌ {A = Result Opened ℕ} (Ok (found_case f (opened f))) (Err n) = sym (within-case h) ∙ e in
+          absurd (let z : ◌≡◌ {A = ℕ} 0 1 = cc in omega arith)
       go (no h) =
-          let l : Refused 1 ≡ Refused n = sym (long-case (lt_of_not-le h)) ∙ e in
+          let l : ◌≡◌ {A = Result Opened ℕ} (Err 1) (Err n) = sym (long-case (lt_of_not-le h)) ∙ e in
           let q : 1 ≡ n = cc in
           (sym q, lt_of_not-le h)
 
-  not-long : (o : Opened) → opened_case f ≡ o → (o ≡ Refused 1 → ⊥) → length f ≤ max_file
+  not-long : (o : Result Opened ℕ) → opened_case f ≡ o → (o ≡ Err 1 → ⊥) → length f ≤ max_file
   not-long o e n = go (dec_le (length f) max_file)
     where
       go : Dec (length f ≤ max_file) → length f ≤ max_file
       go (yes h) = h
       go (no h) = absurd (n (sym e ∙ long-case (lt_of_not-le h)))
 
+  -- an answer is that of a file within the limit
+  answered : (o : Opened) → opened_case f ≡ Ok o → (length f ≤ max_file) × (found_case f (opened f) ≡ o)
+  answered o e =
+      let h = not-long (Ok o) e (λ q. let z : ◌≡◌ {A = ℕ} 0 1 = cc in omega arith) in
+      let q : ◌≡◌ {A = Result Opened ℕ} (Ok (found_case f (opened f))) (Ok o) = sym (within-case h) ∙ e in
+      (h, cc)
+
   -- no manifest
-  pub opened_none : (t : ℕ) → opened_case f ≡ NoManifest t → (length f ≤ max_file) × (opened f ≡ none)
+  pub opened_none : (t : ℕ) → opened_case f ≡ Ok (NoManifest t) → (length f ≤ max_file) × (opened f ≡ none)
   unfolding found_case
-  opened_none t e =
-      let h = not-long (NoManifest t) e (λ q. let z : ◌≡◌ {A = ℕ} 0 1 = cc in omega arith) in
-      (h, go (opened f) (sym (within-case h) ∙ e))
+  opened_none t e = let a = answered (NoManifest t) e in (a.0, go (opened f) a.1)
     where
       go : (o : Option (Found Link)) → found_case f o ≡ NoManifest t → o ≡ none
       go none q = refl
       go (some r) q = absurd (let z : ◌≡◌ {A = ℕ} 0 1 = cc in omega arith)
 
-  pub opened_at : (offset end id count t : ℕ) → opened_case f ≡ At offset end id count t → ManifestAt f offset count
+  pub opened_at : (offset end id count t : ℕ) → opened_case f ≡ Ok (At offset end id count t) → ManifestAt f offset count
   unfolding found_case opened open_of
-  opened_at offset end id count t e = go (opened f) refl (sym (within-case within) ∙ e)
+  opened_at offset end id count t e = let a = answered (At offset end id count t) e in go a.0 (opened f) refl a.1
     where
-      within : length f ≤ max_file
-      within = not-long (At offset end id count t) e (λ q. let z : ◌≡◌ {A = ℕ} 0 1 = cc in omega arith)
-
-      go : (o : Option (Found Link)) → opened f ≡ o → found_case f o ≡ At offset end id count t → ManifestAt f offset count
-      go none p q = absurd (let z : ◌≡◌ {A = ℕ} 0 1 = cc in omega arith)
-      go (some r) p q = record { within = within; found = r; opens = p; offset_is = cc; count_is = cc; stands = last_stands confirmed (chain f) r p }
+      go : length f ≤ max_file → (o : Option (Found Link)) → opened f ≡ o → found_case f o ≡ At offset end id count t → ManifestAt f offset count
+      go h none p q = absurd (let z : ◌≡◌ {A = ℕ} 0 1 = cc in omega arith)
+      go h (some r) p q = record { within = h; found = r; opens = p; offset_is = cc; count_is = cc; stands = last_stands confirmed (chain f) r p }
 
   -- the end and the id that are answered with it
-  pub opened_end : (offset end id count t : ℕ) (e : opened_case f ≡ At offset end id count t)
+  pub opened_end : (offset end id count t : ℕ) (e : opened_case f ≡ Ok (At offset end id count t))
       → ((opened_at offset end id count t e).found.link.offset + size (opened_at offset end id count t e).found.link ≡ end)
       × ((opened_at offset end id count t e).found.link.id ≡ id)
   unfolding found_case
   opened_end offset end id count t e =
       let m = opened_at offset end id count t e in
-      let q : found_case f (some m.found) ≡ At offset end id count t = ap (found_case f) (sym m.opens) ∙ sym (within-case m.within) ∙ e in
+      let q : found_case f (some m.found) ≡ At offset end id count t = ap (found_case f) (sym m.opens) ∙ (answered (At offset end id count t) e).1 in
       (cc, cc)
 
 -- ---- the entry with an index
@@ -209,3 +211,33 @@ module _ (f offsets : List ℕ) (offset count : ℕ) (t : Bytes f) (s : Indexed 
           state_is = state-at;
           state_room = omega arith;
         }
+
+-- ---- what opening finds, as a test
+
+pub manifest_stands : (f : List ℕ) (offset count : ℕ) → ManifestAt f offset count → stands (opened f) offset count ≡ true
+unfolding stands
+manifest_stands f offset count m =
+    ap (λ (o : Option (Found Link)). stands o offset count) m.opens
+    ∙ rw (eq-eqb m.found.link.offset offset m.offset_is, eq-eqb (length m.found.before) count m.count_is)
+
+pub stands_manifest : (f : List ℕ) (offset count : ℕ) → length f ≤ max_file → stands (opened f) offset count ≡ true → ManifestAt f offset count
+unfolding stands opened open_of
+stands_manifest f offset count within e = go (opened f) refl e
+  where
+    go : (o : Option (Found Link)) → opened f ≡ o → stands o offset count ≡ true → ManifestAt f offset count
+    go none p q = absurd (let z : ◌≡◌ {A = ℕ} 0 1 = cc in omega arith)
+    go (some r) p q =
+        let a = and_split (eqb r.link.offset offset) (eqb (length r.before) count) q in
+        record {
+          within = within;
+          found = r;
+          opens = p;
+          offset_is = eqb-true r.link.offset offset a.0;
+          count_is = eqb-true (length r.before) count a.1;
+          stands = last_stands confirmed (chain f) r p;
+        }
+
+-- the entry with an index of a directory
+pub directory_entry : (f offsets : List ℕ) (offset count : ℕ) → Bytes f → Indexed f offsets → most ≤ length offsets
+    → (within : length f ≤ max_file) (e : stands (opened f) offset count ≡ true) (i : ℕ) → i < count → EntryAt f offsets (stands_manifest f offset count within e).found offset i
+directory_entry f offsets offset count t s room within e i h = entry_at f offsets offset count t s room (stands_manifest f offset count within e) i h

@@ -1,7 +1,7 @@
 -- What opening answers, by cases, and document 01's number and values for each case.
 -- Assumes nothing.
-use Rattle.std.specs.Prelude.{ℕ, ◌+◌, ◌-◌, ◌/◌, ◌≤◌, ◌<◌, ◌≡◌, refl, Bool, true, false, ◌&&◌, List, eqb, length, drop}
-use Rattle.std.proofs.Common.{sym, ◌∙◌}
+use Rattle.std.specs.Prelude.{ℕ, ◌+◌, ◌-◌, ◌/◌, ◌≤◌, ◌<◌, ◌≡◌, refl, Bool, true, false, ◌&&◌, List, eqb, length, drop, Ok, Err}
+use Rattle.std.proofs.Common.{sym, ap, ◌∙◌}
 use Rattle.std.proofs.Math.Option.{none, some}
 use Rattle.std.proofs.lemmas.Bool.{lt-leb}
 use Rattle.octets.specs.Zero.{same_bytes}
@@ -11,17 +11,17 @@ use Rattle.manifest.specs.Payload.{manifest_kind, states_held, states_in, manife
 use Rattle.manifest.specs.Opening.{opened, tried, found_case, opened_case}
 use Rattle.manifest.proofs.OpeningLaws.{at_long, at_within}
 use Rattle.manifest.specs.declared.Opened.{Opened}
-use Rattle.manifest.specs.declared.Opened.TheVariants.{At, NoManifest, Refused}
+use Rattle.manifest.specs.declared.Opened.TheVariants.{At, NoManifest}
 
 -- ---- the ways out
 
-pub open_long : (f : List ℕ) → max_file < length f → Refused 1 ≡ opened_case f
+pub open_long : (f : List ℕ) → max_file < length f → Err 1 ≡ opened_case f
 unfolding opened_case
-open_long f h = sym (at_long (Refused 1) (found_case f) f h)
+open_long f h = sym (at_long (Err 1) (λ o. Ok (found_case f o)) f h)
 
-pub open_within : (f : List ℕ) (o : Opened) → length f ≤ max_file → o ≡ found_case f (opened f) → o ≡ opened_case f
+pub open_within : (f : List ℕ) (o : Opened) → length f ≤ max_file → o ≡ found_case f (opened f) → Ok o ≡ opened_case f
 unfolding opened_case
-open_within f o h e = e ∙ sym (at_within (Refused 1) (found_case f) f h)
+open_within f o h e = ap (λ (x : Opened). Ok x) e ∙ sym (at_within (Err 1) (λ o. Ok (found_case f o)) f h)
 
 -- confirmation is refused where more links stand before than a directory has room for
 and_false : (a b c d : Bool) → ((((a && false) && b) && c) && d) ≡ false

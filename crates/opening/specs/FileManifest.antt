@@ -2,13 +2,13 @@
 -- refuse alike is one law.
 -- The laws stand in proofs/FileManifestLaws.antt. Definitions only.
 -- Assumes nothing.
+use Rattle.std.specs.Prelude.{ℕ, Result, Ok, Err}
 use Rattle.manifest.specs.declared.Opened.{Opened}
-use Rattle.manifest.specs.declared.Opened.TheVariants.{At as OpenedAt, NoManifest, Refused as NotOpened}
+use Rattle.manifest.specs.declared.Opened.TheVariants.{At, NoManifest}
 use Rattle.opening.specs.declared.FileManifest.{FileManifest}
-use Rattle.opening.specs.declared.FileManifest.TheVariants.{At, Refused}
 
 -- 'none means refusal 2'
-unfoldable pub manifest_of : Opened → FileManifest
-manifest_of (OpenedAt offset end id count t) = At offset end count t
-manifest_of (NoManifest t) = Refused 2
-manifest_of (NotOpened n) = Refused n
+unfoldable pub manifest_of : Result Opened ℕ → Result FileManifest ℕ
+manifest_of (Ok (At offset end id count t)) = Ok (record { offset = offset; end = end; count = count; tried = t })
+manifest_of (Ok (NoManifest t)) = Err 2
+manifest_of (Err n) = Err n

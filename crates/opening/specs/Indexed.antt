@@ -4,10 +4,10 @@
 -- Assumes nothing.
 use Prim.Native.Nat.{ℕ, ◌≤◌}
 use Rattle.std.proofs.Math.Path.{◌≡◌}
-use Rattle.std.proofs.Math.Option.{some}
+use Rattle.std.proofs.Math.Option.{Option, none, some}
 use mathlib.Core.List.{List}
 use Rattle.std.proofs.Math.ListN.{length}
-use Rattle.std.specs.Prelude.{take}
+use Rattle.std.specs.Prelude.{take, Bool, false, ◌&&◌, eqb}
 use Rattle.answers.specs.limits.Limits.{max_file}
 use Rattle.segment.specs.chain.Chain.{Found}
 use Rattle.segment.specs.chain.Last.{LastIn}
@@ -33,3 +33,8 @@ pub record ManifestAt (f : List ℕ) (offset count : ℕ) : Type 0 where
 -- the offsets of the links that can matter stand at the front of a list
 abbrev pub Indexed : List ℕ → List ℕ → Type 0
 Indexed f offsets = Stored f offsets (length (take most (chain f)))
+
+-- the same as a test: of what opening finds, its manifest stands at an offset, behind so many links
+unfoldable pub stands : Option (Found Link) → ℕ → ℕ → Bool
+stands none offset count = false
+stands (some r) offset count = eqb r.link.offset offset && eqb (length r.before) count

@@ -1,6 +1,6 @@
 -- A component by its kind and by its bytes say the same: the number always, the values unless the bytes are a NaN's.
 -- Assumes nothing.
-use Rattle.std.specs.Prelude.{ℕ, ◌-◌, ◌<◌, ◌≡◌, refl, Bool, true, false, cond, not, List, [], ◌∷◌, T, ltb, pos, negsuc}
+use Rattle.std.specs.Prelude.{ℕ, ◌-◌, ◌<◌, ◌≡◌, refl, Bool, true, false, cond, not, List, [], ◌∷◌, T, ltb, pos, negsuc, Result, Ok}
 use Rattle.std.proofs.Common.{ap, ◌∙◌, arith}
 use Rattle.std.specs.Float.Ieee.{of_bits, is_nan}
 use Rattle.std.specs.Float.{binary32}
@@ -12,15 +12,13 @@ use Rattle.vecseg.specs.declared.Component.{Component}
 use Rattle.vecseg.specs.declared.Component.TheVariants.{Float, Signed, Unsigned}
 use Rattle.reading.specs.Answers.{Value, Stored, NoValue}
 use Rattle.reading.specs.Component.{component_case, byte_of, kind_answer, bits_case, bits_answer}
-use Rattle.reading.specs.declared.ComponentRead.{ComponentRead}
-use Rattle.reading.specs.declared.ComponentRead.TheVariants.{Value as KindOf}
 
 -- the number, as the two promises of the function say it
-pub kind_number : (r : ComponentRead) (v : Value) → r ≡ component_case v → (r ≡ component_case v) × (number (kind_answer r) ≡ number (bits_answer (bits_case v)))
+pub kind_number : (r : Result Component ℕ) (v : Value) → r ≡ component_case v → (r ≡ component_case v) × (number (kind_answer r) ≡ number (bits_answer (bits_case v)))
 unfolding component_case kind_answer bits_case bits_answer number
-kind_number r v e = (e, ap (λ (x : ComponentRead). number (kind_answer x)) e ∙ same v)
+kind_number r v e = (e, ap (λ (x : Result Component ℕ). number (kind_answer x)) e ∙ same v)
   where
-    kind : (k : Component) → number (kind_answer (KindOf k)) ≡ 0
+    kind : (k : Component) → number (kind_answer (Ok k)) ≡ 0
     kind (Float x) = refl
     kind (Signed i) = refl
     kind (Unsigned b) = refl

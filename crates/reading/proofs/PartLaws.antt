@@ -1,6 +1,6 @@
 -- The laws of specs/PartLaws.antt.
 -- Assumes nothing.
-use Rattle.std.specs.Prelude.{ℕ, ◌+◌, ◌≤◌, ◌<◌, ◌≡◌, refl, true, false, List, [], length}
+use Rattle.std.specs.Prelude.{ℕ, ◌+◌, ◌≤◌, ◌<◌, ◌≡◌, refl, true, false, List, [], length, Result, Ok, Err}
 use Rattle.std.proofs.Common.{sym, ◌∙◌, arith}
 use Rattle.std.proofs.Math.Option.{none, some}
 use Rattle.std.specs.Borrow.{Bor}
@@ -11,7 +11,6 @@ use Rattle.reading.specs.Live.{live, with_id}
 use Rattle.reading.specs.Answers.{Part, Handed, NotHanded, part_of, part_found, part_in}
 use Rattle.reading.proofs.Placed.{part_in_handed}
 use Rattle.reading.specs.declared.PayloadPlace.{PayloadPlace}
-use Rattle.reading.specs.declared.PayloadPlace.TheVariants.{At, Refused}
 use Rattle.reading.specs.Part.{place_answer, place_of, IsPart, HandsPart}
 use Rattle.reading.specs.PartLaws.{place_number, Hands}
 
@@ -51,27 +50,27 @@ hands_part r f id h = go (part_in f.now id) refl h
 
 -- ---- the ways out of handing over
 
-pub hands_at : (r f : Bor (List ℕ)) (p : PayloadPlace) (start len : ℕ) → p ≡ At start len → start + len ≤ length f.now → IsPart r f start len → Hands r f p
+pub hands_at : (r f : Bor (List ℕ)) (a : Result PayloadPlace ℕ) (start len : ℕ) → a ≡ Ok (record { start = start; length = len }) → start + len ≤ length f.now → IsPart r f start len → Hands r f a
 unfolding Hands
-hands_at r f p start len e h y = rw e ((λ k. y), λ k. absurd (omega arith))
+hands_at r f a start len e h y = rw e ((λ k. y), λ k. absurd (omega arith))
 
-pub hands_outside : (r f : Bor (List ℕ)) (p : PayloadPlace) (start len : ℕ) → p ≡ At start len → length f.now < start + len → r.now ≡ [] → Hands r f p
+pub hands_outside : (r f : Bor (List ℕ)) (a : Result PayloadPlace ℕ) (start len : ℕ) → a ≡ Ok (record { start = start; length = len }) → length f.now < start + len → r.now ≡ [] → Hands r f a
 unfolding Hands
-hands_outside r f p start len e h y = rw e ((λ k. absurd (omega arith)), λ k. y)
+hands_outside r f a start len e h y = rw e ((λ k. absurd (omega arith)), λ k. y)
 
-pub hands_nothing : (r f : Bor (List ℕ)) (p : PayloadPlace) (n : ℕ) → p ≡ Refused n → r.now ≡ [] → Hands r f p
+pub hands_nothing : (r f : Bor (List ℕ)) (a : Result PayloadPlace ℕ) (n : ℕ) → a ≡ Err n → r.now ≡ [] → Hands r f a
 unfolding Hands
-hands_nothing r f p n e y = rw e y
+hands_nothing r f a n e y = rw e y
 
-pub number_at : (p : PayloadPlace) (start len : ℕ) → p ≡ At start len → 0 ≡ place_number p
+pub number_at : (a : Result PayloadPlace ℕ) (start len : ℕ) → a ≡ Ok (record { start = start; length = len }) → 0 ≡ place_number a
 unfolding place_number
-number_at p start len e = rw e
+number_at a start len e = rw e
 
-pub number_not : (p : PayloadPlace) (n : ℕ) → p ≡ Refused n → n ≡ place_number p
+pub number_not : (a : Result PayloadPlace ℕ) (n : ℕ) → a ≡ Err n → n ≡ place_number a
 unfolding place_number
-number_not p n e = rw e
+number_not a n e = rw e
 
-pub number_same : (p : PayloadPlace) → place_number p ≡ number (place_answer p)
+pub number_same : (a : Result PayloadPlace ℕ) → place_number a ≡ number (place_answer a)
 unfolding place_number place_answer number
-number_same (At start len) = refl
-number_same (Refused n) = refl
+number_same (Ok p) = refl
+number_same (Err n) = refl

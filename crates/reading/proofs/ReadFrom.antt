@@ -8,7 +8,7 @@ use Rattle.segment.specs.chain.Chain.{Found}
 use Rattle.segment.specs.Header.{Link}
 use Rattle.manifest.specs.Opening.{opened}
 use Rattle.vecseg.specs.Find.{Place}
-use Rattle.vecseg.specs.declared.Vector.TheVariants.{Read}
+use Rattle.std.specs.Prelude.{Ok}
 use Rattle.reading.specs.Live.{search_order}
 use Rattle.reading.specs.Answers.{Hit, Held, Missing, Bad, hit_found, hit_in, vector_hit, vector_case, Stored, value_hit, value_in}
 use Rattle.reading.specs.Read.{ReadFrom}
@@ -24,11 +24,11 @@ from_hit f id l p e = go (opened f) refl (at_found (Bad 1) (Held l p) (hit_found
     go (some r) h q = record { found = r; opens = h; link = l; place = p; search = answered id (search_order r) l p q }
 
 -- 'No vector leaves unless its segment hash and block check agree', of the vector call
-pub vector_read : (f : List ℕ) (id : ℕ) (buf : List ℕ) (dim dtype n : ℕ) → vector_case f id buf ≡ Read dim dtype n → ReadFrom f id
+pub vector_read : (f : List ℕ) (id : ℕ) (buf : List ℕ) (dim dtype n : ℕ) → vector_case f id buf ≡ Ok (record { dim = dim; dtype = dtype; length = n }) → ReadFrom f id
 unfolding vector_case vector_hit
 vector_read f id buf dim dtype n e = go (hit_in f id) refl e
   where
-    go : (h : Hit) → hit_in f id ≡ h → vector_hit buf h ≡ Read dim dtype n → ReadFrom f id
+    go : (h : Hit) → hit_in f id ≡ h → vector_hit buf h ≡ Ok (record { dim = dim; dtype = dtype; length = n }) → ReadFrom f id
     go (Held l p) h q = from_hit f id l p h
     go Missing h q = absurd (let z : ◌≡◌ {A = ℕ} 0 1 = cc in omega arith)
     go (Bad m) h q = absurd (let z : ◌≡◌ {A = ℕ} 0 1 = cc in omega arith)

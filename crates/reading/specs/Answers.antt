@@ -1,6 +1,6 @@
 -- What the reading calls of document 01 answer about a file, each as a function of what opening finds.
 -- Assumes nothing.
-use Rattle.std.specs.Prelude.{ℕ, ◌+◌, cond, List, [], ◌∷◌, eqb, ltb}
+use Rattle.std.specs.Prelude.{ℕ, ◌+◌, cond, List, [], ◌∷◌, eqb, ltb, Result, Err}
 use Rattle.std.proofs.Math.Option.{Option, none, some}
 use Rattle.answers.specs.Write.{write_answer, write_buffer}
 use Rattle.segment.specs.chain.Chain.{Found}
@@ -10,7 +10,6 @@ use Rattle.vecseg.specs.Payload.{check_of}
 use Rattle.vecseg.specs.Find.{Place, find_in, vector_of, value_at}
 use Rattle.vecseg.specs.Vector.{read_of}
 use Rattle.vecseg.specs.declared.Vector.{Vector}
-use Rattle.vecseg.specs.declared.Vector.TheVariants.{Refused}
 use Rattle.reading.specs.Live.{live, search_order, with_id}
 
 -- ---- a payload by its segment's id
@@ -68,10 +67,10 @@ hit_in f id = at_opened (Bad 1) (hit_found id) f
 
 -- ---- a vector: dim, dtype and the length written; 8 where none is found, then 9
 
-unfoldable pub vector_hit : List ℕ → Hit → Vector
+unfoldable pub vector_hit : List ℕ → Hit → Result Vector ℕ
 vector_hit buf (Held l p) = read_of p (write_answer 0 (vector_of l.payload p) buf)
-vector_hit buf Missing = Refused 8
-vector_hit buf (Bad n) = Refused n
+vector_hit buf Missing = Err 8
+vector_hit buf (Bad n) = Err n
 
 -- the buffer after it: the vector's bytes in dimension order at its front; a refusal leaves it as it was
 unfoldable pub buffer_hit : List ℕ → Hit → List ℕ
@@ -79,7 +78,7 @@ buffer_hit buf (Held l p) = write_buffer 0 (vector_of l.payload p) buf
 buffer_hit buf Missing = buf
 buffer_hit buf (Bad n) = buf
 
-unfoldable pub vector_case : List ℕ → ℕ → List ℕ → Vector
+unfoldable pub vector_case : List ℕ → ℕ → List ℕ → Result Vector ℕ
 vector_case f id buf = vector_hit buf (hit_in f id)
 
 unfoldable pub vector_after : List ℕ → ℕ → List ℕ → List ℕ

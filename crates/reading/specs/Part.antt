@@ -1,21 +1,20 @@
 -- A payload that is handed back: where it lies, and what it is for a slice to be that part of the file itself.
 -- Assumes nothing.
-use Rattle.std.specs.Prelude.{length, take, drop, [], ◌∷◌, List, ℕ, ◌+◌, ◌≤◌, ◌≡◌}
+use Rattle.std.specs.Prelude.{length, take, drop, [], ◌∷◌, List, ℕ, ◌+◌, ◌≤◌, ◌≡◌, Result, Ok, Err}
 use Rattle.reading.specs.Answers.{Part, Handed, NotHanded}
 use Rattle.reading.specs.declared.PayloadPlace.{PayloadPlace}
-use Rattle.reading.specs.declared.PayloadPlace.TheVariants.{At, Refused}
 use Rattle.answers.specs.Answer.{Answer, Accepted, Refusal}
 use Rattle.std.specs.Borrow.{Bor}
 use Rattle.segment.specs.Header.{Link}
 
-unfoldable pub place_of : Part → PayloadPlace
-place_of (Handed start bytes) = At start (length bytes)
-place_of (NotHanded n) = Refused n
+unfoldable pub place_of : Part → Result PayloadPlace ℕ
+place_of (Handed start bytes) = Ok (record { start = start; length = length bytes })
+place_of (NotHanded n) = Err n
 
 -- its number and values
-unfoldable pub place_answer : PayloadPlace → Answer
-place_answer (At start len) = Accepted (start ∷ len ∷ [])
-place_answer (Refused n) = Refusal n []
+unfoldable pub place_answer : Result PayloadPlace ℕ → Answer
+place_answer (Ok p) = Accepted (p.start ∷ p.length ∷ [])
+place_answer (Err n) = Refusal n []
 
 -- the slice r is the len bytes at `start` of the file f itself: its bytes, the block of memory that it lies in, and its place there
 pub record IsPart (r f : Bor (List ℕ)) (start len : ℕ) : Type 0 where

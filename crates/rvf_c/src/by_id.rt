@@ -17,10 +17,9 @@ pub extern "C" fn rvf_payload(file: &[u8], id: u64, out: &mut [u64; 2]) -> u32
     ensures values { out.new ≡ out_of out.old
         (place_answer (place_of (part_in file.now id))) }
 {
-    let p = lookup::place::payload_place(file, id);
-    match p {
-        PayloadPlace::Refused(e) => e,
-        PayloadPlace::At { start, length } => {
+    match lookup::place::payload_place(file, id) {
+        Err(refusal) => refusal.number(),
+        Ok(PayloadPlace { start, length }) => {
             out[0] = start as u64;
             out[1] = length as u64;
             0
@@ -50,10 +49,9 @@ pub extern "C" fn rvf_component(file: &[u8], id: u64, index: u64, out: &mut [u64
     ensures values { out.new ≡ out_of out.old
         (bits_answer (bits_case (value_in file.now id index))) }
 {
-    let b = lookup::vector::component_bits(file, id, index);
-    match b {
-        ComponentBits::Refused(e) => e,
-        ComponentBits::Of { dtype, bits } => {
+    match lookup::vector::component_bits(file, id, index) {
+        Err(refusal) => refusal.number(),
+        Ok(ComponentBits { dtype, bits }) => {
             out[0] = dtype as u64;
             out[1] = bits as u64;
             0

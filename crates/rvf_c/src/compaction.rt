@@ -16,10 +16,9 @@ pub extern "C" fn rvf_compact(file: &[u8], buffer: &mut [u8], out: &mut [u64; 3]
     ensures values { out.new ≡ out_of out.old
         (compacted_answer (compact_case file.now buffer.old)) }
 {
-    let c = compact::compact(file, buffer);
-    match c {
-        Compacted::Refused(e) => e,
-        Compacted::At { end, id, count } => {
+    match compact::compact(file, buffer) {
+        Err(refusal) => refusal.number(),
+        Ok(Compacted { end, id, count }) => {
             out[0] = end as u64;
             out[1] = id;
             out[2] = count as u64;

@@ -4,6 +4,7 @@ ghost use Rattle.answers.specs.Answer.{number};
 ghost use Rattle.manifest.specs.Opening.{open_answer, open_out};
 ghost use Rattle.manifest.specs.Directory.{entry_case, entry_number, entry_out};
 
+use answers::Refusal;
 use manifest::{DirectoryEntry, Opened};
 
 // The file's manifest: offset, end, id, the number of its entries and the boundaries tried; 1; or 2, which writes the
@@ -14,20 +15,21 @@ pub extern "C" fn rvf_open(file: &[u8], out: &mut [u64; 5]) -> u32
     ensures number { result ≡ number (open_answer file.now) }
     ensures values { out.new ≡ open_out out.old (open_answer file.now) }
 {
-    let o = opening::open(file);
-    match o {
-        Opened::Refused(e) => e,
-        Opened::NoManifest { tried } => {
+    match opening::open(file) {
+        Err(refusal) => refusal.number(),
+        Ok(Opened::NoManifest { tried }) => {
             out[4] = tried as u64;
-            2
+            Refusal::NoManifest.number()
         }
-        Opened::At {
-            offset,
-            end,
-            id,
-            count,
-            tried,
-        } => {
+        Ok(
+            Opened::At {
+                offset,
+                end,
+                id,
+                count,
+                tried,
+            },
+        ) => {
             out[0] = offset as u64;
             out[1] = end as u64;
             out[2] = id;
@@ -46,20 +48,23 @@ pub extern "C" fn rvf_entry(file: &[u8], index: u64, out: &mut [u64; 8]) -> u32
     ensures number { result ≡ entry_number (entry_case file.now index) }
     ensures values { out.new ≡ entry_out out.old (entry_case file.now index) }
 {
-    let e = opening::directory::entry(file, index);
-    match e {
-        DirectoryEntry::Refused(n) => n,
-        DirectoryEntry::NoEntry => 255,
-        DirectoryEntry::Of {
-            offset,
-            id,
-            length,
-            hash_low,
-            hash_high,
-            kind,
-            state,
-            flags,
-        } => {
+    match opening::directory::entry(file, index) {
+        Err(refusal) => refusal.number(),
+        Ok(None) => 255,
+        Ok(
+            Some(
+                DirectoryEntry {
+                    offset,
+                    id,
+                    length,
+                    hash_low,
+                    hash_high,
+                    kind,
+                    state,
+                    flags,
+                },
+            ),
+        ) => {
             out[0] = offset;
             out[1] = id;
             out[2] = length;

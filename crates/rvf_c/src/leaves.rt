@@ -24,10 +24,9 @@ pub extern "C" fn rvf_varint_read(bytes: &[u8], out: &mut [u64; 2]) -> u32
     ensures values { out.new ≡ out_of out.old
         (varint_answer (read_varint bytes.now)) }
 {
-    let v = varint::read(bytes);
-    match v {
-        Varint::Refused(e) => e,
-        Varint::Value { value, length } => {
+    match varint::read(bytes) {
+        Err(refusal) => refusal.number(),
+        Ok(Varint { value, length }) => {
             out[0] = value;
             out[1] = length as u64;
             0

@@ -11,7 +11,7 @@ ghost use Rattle.vecseg.specs.Vector.{vector_answer, vector_in, vector_buffer};
 pub extern "C" fn rvf_vec_check(payload: &[u8]) -> u32
     ensures { result ≡ check_of payload.now }
 {
-    vec_read::check::check(payload)
+    answers::number_of(&vec_read::check::check(payload))
 }
 
 // A payload of one block at the front of a buffer: its length, or 14, then 9.

@@ -24,10 +24,9 @@ pub extern "C" fn rvf_append(
     ensures values { out.new ≡ out_of out.old
         (append_answer buffer.old n batch.now retire.now) }
 {
-    let a = append::append(buffer, n, batch, retire, timestamp);
-    match a {
-        Appended::Refused(e) => e,
-        Appended::At { end, id, count } => {
+    match append::append(buffer, n, batch, retire, timestamp) {
+        Err(refusal) => refusal.number(),
+        Ok(Appended { end, id, count }) => {
             out[0] = end as u64;
             out[1] = id;
             out[2] = count as u64;

@@ -2,7 +2,6 @@
 // byte more than the limit is read, so that a longer file shows as one.
 #![tactic(auto)]
 
-use answers::Wrote;
 use std::io;
 
 fn main(rt: HostRuntime) -> io::Result<()> {
@@ -11,7 +10,7 @@ fn main(rt: HostRuntime) -> io::Result<()> {
     let n = input::read_full(&mut rt.reader(), &mut file)?;
     match listing::list(&file[..n], &mut text) {
         // The buffer has room for the longest list.
-        Wrote::Refused(_) => Ok(()),
-        Wrote::Length(length) => rt.write_all(&text[..length]),
+        Err(_) => Ok(()),
+        Ok(length) => rt.write_all(&text[..length]),
     }
 }

@@ -1,6 +1,6 @@
 -- The ways out of the tests on a header, each with its law.
 -- Assumes nothing.
-use Rattle.std.specs.Prelude.{◌≡◌, Bool, true, false, List, ◌++◌, ℕ, ◌≤◌, ◌<◌, leb, take, drop, get_or, replicate}
+use Rattle.std.specs.Prelude.{◌≡◌, refl, Bool, true, false, ◌&&◌, eqb, List, ◌++◌, ℕ, ◌≤◌, ◌<◌, leb, take, drop, get_or, replicate}
 use Rattle.std.proofs.Common.{sym, ap, ◌∙◌, arith, le-leb}
 use Rattle.std.proofs.Math.Bool.{and-true}
 use Rattle.std.proofs.lemmas.Bool.{lt-leb}
@@ -50,3 +50,31 @@ pub head_holds : (least : ℕ) (h : List ℕ) (r : Bool) → same_bytes (take 4 
 unfolding head_sound all
 head_holds least h r magic-is version kind flags algo middle last id =
     id ∙ rw (magic-is, version, kind, flags, algo, middle, last) (sym (and-true (leb least (id_in h))))
+
+-- a test that is asked where those before it hold, and one that is not
+pub asked : {v before test : Bool} → before ≡ true → v ≡ test → v ≡ before && test
+asked h e = e ∙ rw h
+
+pub not_asked : {v before : Bool} (test : Bool) → before ≡ false → v ≡ before → v ≡ before && test
+not_asked test h e = e ∙ rw h
+
+conjunction : (a b c d e f g i : Bool)
+    → (((((((a && b) && c) && d) && e) && f) && g) && i) ≡ (a && (b && (c && (d && (e && (f && (g && (i && true))))))))
+conjunction true true true true true true true i = sym (and-true i)
+conjunction true true true true true true false i = refl
+conjunction true true true true true false g i = refl
+conjunction true true true true false f g i = refl
+conjunction true true true false e f g i = refl
+conjunction true true false d e f g i = refl
+conjunction true false c d e f g i = refl
+conjunction false b c d e f g i = refl
+
+-- all but the last, asked one by one, and the last: what stands after each
+pub head_asked : (least : ℕ) (h : List ℕ) (v₂ v₃ v₄ v₅ v₆ v₇ : Bool) → v₂ ≡ same_bytes (take 4 h) magic && eqb (get_or h 0x04 0) 1 → v₃ ≡ v₂ && type_held (kind_in h)
+    → v₄ ≡ v₃ && flags_held (flags_in h) → v₅ ≡ v₄ && eqb (get_or h 0x20 0) 0 → v₆ ≡ v₅ && all_zero (take 7 (drop 0x21 h)) → v₇ ≡ v₆ && all_zero (take 8 (drop 0x38 h))
+    → head_sound least h ≡ v₇ && leb least (id_in h)
+unfolding head_sound all
+head_asked least h v₂ v₃ v₄ v₅ v₆ v₇ e₂ e₃ e₄ e₅ e₆ e₇ = rw (e₇, e₆, e₅, e₄, e₃, e₂)
+    (sym
+    (conjunction (same_bytes (take 4 h) magic) (eqb (get_or h 0x04 0) 1) (type_held (kind_in h)) (flags_held (flags_in h)) (eqb (get_or h 0x20 0) 0)
+    (all_zero (take 7 (drop 0x21 h))) (all_zero (take 8 (drop 0x38 h))) (leb least (id_in h))))

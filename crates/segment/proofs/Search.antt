@@ -1,6 +1,7 @@
 -- The laws of specs/Search.antt.
 -- Assumes nothing.
-use Rattle.std.specs.Prelude.{◌≡◌, refl, Bool, true, false, List, [], ◌∷◌, ◌++◌, ℕ, ◌+◌, ◌*◌, ◌/◌, ◌%◌, ◌≤◌, ◌<◌, length, take, drop}
+use Rattle.std.specs.Prelude.{◌≡◌, refl, Bool, true, false, List, [], ◌∷◌, ◌++◌, ℕ, ◌+◌, ◌*◌, ◌/◌, ◌%◌, ◌≤◌, ◌<◌, length, take, drop, Some, None}
+use Rattle.std.specs.Prelude.{Option as Maybe}
 use Rattle.std.proofs.Common.{sym, ◌∙◌, append_assoc, arith, take-append-drop}
 use Rattle.std.proofs.Math.Path.{ap}
 use Rattle.std.proofs.Math.Option.{none, some}
@@ -9,7 +10,7 @@ use Rattle.segment.specs.chain.Chain.{last_confirmed, scan, open_of}
 use Rattle.segment.proofs.chain.Places.{same_place, later_place, within}
 use Rattle.segment.proofs.chain.Walk.{walk_fits, walk_each}
 use Rattle.segment.proofs.chain.Search.{below, below_all, below_zero, boundary_down, boundary_found}
-use Rattle.segment.specs.declared.Step.TheVariants.{Sound, Stop}
+use Rattle.segment.specs.declared.Step.{Step}
 use Rattle.segment.specs.Header.{Link, start, reader, size}
 use Rattle.segment.proofs.Laws.{segment_format, size_least, size_aligned, chain_aligned}
 use Rattle.segment.specs.Step.{step_at}
@@ -37,19 +38,19 @@ place_aligned f p b z l h = let a = sizes_aligned b in let q : sizes reader b �
 
 -- ---- what a loop of steps finds
 
-module _ (f : List ℕ) (n at : ℕ) (first : Bool) (prev : ℕ) (c : ChainAt f n at first prev) where
+module _ (f : List ℕ) (n at : ℕ) (prev : Maybe ℕ) (c : ChainAt f n at prev) where
   -- the chain stops at or before a place: no link begins there
-  pub none_behind : step_at f at first prev ≡ Stop → (p : ℕ) → at ≤ p → (b z : List Link) (l : Link) → Placed f p b l z → ⊥
+  pub none_behind : step_at f at prev ≡ None → (p : ℕ) → at ≤ p → (b z : List Link) (l : Link) → Placed f p b l z → ⊥
   none_behind e p h b z l a =
       let w = within reader (chain f) b z l a.split in
       let k = size_least l in
       let q : sizes reader b ≡ p = a.place in
-      let r : at ≡ sizes reader (chain f) = c.walked.place ∙ ap (sizes reader) (chain_stop f n at first prev c e) in
+      let r : at ≡ sizes reader (chain f) = c.walked.place ∙ ap (sizes reader) (chain_stop f n at prev c e) in
       omega arith
 
-  module _ (end id len kind flags : ℕ) (e : step_at f at first prev ≡ Sound end id len kind flags) where
-    abbrev step : Stepped f at first prev end id len kind flags
-    step = step_link f at first prev end id len kind flags e
+  module _ (s : Step) (e : step_at f at prev ≡ Some s) where
+    abbrev step : Stepped f at prev s
+    step = step_link f at prev s e
 
     -- the step's link in the chain
     pub stepped_at : Placed f at (take n (chain f)) step.link (drop (n + 1) (chain f))
@@ -57,19 +58,19 @@ module _ (f : List ℕ) (n at : ℕ) (first : Bool) (prev : ℕ) (c : ChainAt f 
         record {
           split =
               sym (take-append-drop (n + 1) (chain f))
-              ∙ ap (λ (x : List Link). x ++ drop (n + 1) (chain f)) (chain_link f n at first prev c end id len kind flags e)
+              ∙ ap (λ (x : List Link). x ++ drop (n + 1) (chain f)) (chain_link f n at prev c s e)
               ∙ append_assoc (take n (chain f)) (step.link ∷ []) (drop (n + 1) (chain f));
           place = sym c.walked.place;
         }
 
     -- no link begins inside it
-    pub none_inside : (p : ℕ) → at < p → p < end → (b z : List Link) (l : Link) → Placed f p b l z → ⊥
+    pub none_inside : (p : ℕ) → at < p → p < s.end → (b z : List Link) (l : Link) → Placed f p b l z → ⊥
     none_inside p h k b z l a =
-        let s = stepped_at in
+        let here = stepped_at in
         let q : sizes reader b ≡ p = a.place in
-        let r : sizes reader (take n (chain f)) ≡ at = s.place in
-        let y : end ≡ at + size step.link = step.end_is in
-        let w = later_place reader (chain f) (take n (chain f)) b (drop (n + 1) (chain f)) z step.link l s.split a.split (omega arith) in
+        let r : sizes reader (take n (chain f)) ≡ at = here.place in
+        let y : s.end ≡ at + size step.link = step.end_is in
+        let w = later_place reader (chain f) (take n (chain f)) b (drop (n + 1) (chain f)) z step.link l here.split a.split (omega arith) in
         omega arith
 
     -- the link that begins where the loop stands is the step's

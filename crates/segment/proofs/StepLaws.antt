@@ -1,6 +1,7 @@
 -- The laws of specs/Step.antt.
 -- Assumes nothing.
-use Rattle.std.specs.Prelude.{Bool, true, false, cond, ◌&&◌, List, ◌≡◌, ℕ, ◌+◌, ◌-◌, ◌≤◌, ◌<◌, take}
+use Rattle.std.specs.Prelude.{Bool, true, false, cond, ◌&&◌, List, ◌≡◌, ℕ, ◌+◌, ◌-◌, ◌≤◌, ◌<◌, take, Some, None}
+use Rattle.std.specs.Prelude.{Option as Maybe}
 use Rattle.std.proofs.Math.Option.{none, some}
 use Rattle.std.proofs.Math.Path.{sym, ap}
 use Rattle.std.proofs.Common.{◌∙◌, take-take, drop-drop, get_or-take}
@@ -14,7 +15,6 @@ use Rattle.octets.specs.Round.{round64}
 use Rattle.octets.proofs.RoundLaws.{round64_ge}
 use Rattle.octets.specs.le.Le.{le_at}
 use Rattle.segment.specs.chain.Chain.{framed}
-use Rattle.segment.specs.declared.Step.TheVariants.{Sound, Stop}
 use Rattle.segment.specs.Header.{Link, State, link_at, size, hash_in, content_hash, read, size_at, sound, head_sound, length_in, id_in, kind_in, flags_in, whole}
 use Rattle.segment.specs.Laws.{link_front}
 use Rattle.segment.proofs.Laws.{link_in_front, number_front, LinkRead, lies}
@@ -42,7 +42,7 @@ link_tests st s n e h =
       link_in_front st.at s (64 + round64 n) (omega arith),
     )
 
-module _ (f : List ℕ) (at : ℕ) (first : Bool) (prev : ℕ) where
+module _ (f : List ℕ) (at : ℕ) (prev : Maybe ℕ) where
   -- the header as the function is lent it
   abbrev head : List ℕ
   head = take (at + 64 - at) (drop at f)
@@ -51,12 +51,12 @@ module _ (f : List ℕ) (at : ℕ) (first : Bool) (prev : ℕ) where
   head-is = let e : at + 64 - at ≡ 64 = omega arith in ap (λ (n : ℕ). take n (drop at f)) e
 
   -- no room for a header
-  pub step_short : length f - at < 64 → Stop ≡ step_at f at first prev
+  pub step_short : length f - at < 64 → None ≡ step_at f at prev
   unfolding step_at step_of framed
   step_short h = rw (length-drop, lt-leb 64 (length f - at) h)
 
   -- the end above N
-  pub step_cut : (n : ℕ) → n ≡ le_at 8 head 0x10 → 64 ≤ length f - at → length f - at < 64 + round64 n → Stop ≡ step_at f at first prev
+  pub step_cut : (n : ℕ) → n ≡ le_at 8 head 0x10 → 64 ≤ length f - at → length f - at < 64 + round64 n → None ≡ step_at f at prev
   unfolding step_at step_of framed size_at
   step_cut n e h k =
       let g : length_in (take 64 (drop at f)) ≡ n = rw (← head-is) (sym e) in
@@ -67,24 +67,24 @@ module _ (f : List ℕ) (at : ℕ) (first : Bool) (prev : ℕ) where
     abbrev pad : List ℕ
     pad = take (at + 64 + m - (at + 64 + n)) (drop (at + 64 + n) f)
 
-    tests : link_at (state_at at first prev) (drop at f) ≡ cond (head_sound (least_id first prev) head && all_zero pad) (some (link_front at (drop at f))) none
+    tests : link_at (state_at at prev) (drop at f) ≡ cond (head_sound (least_id prev) head && all_zero pad) (some (link_front at (drop at f))) none
     tests =
         let g : length_in (take 64 (drop at f)) ≡ n = rw (← head-is) (sym e) in
         let k : 64 + round64 n ≤ length (drop at f) = rw (length-drop, ← z) fits in
         let a : at + 64 + m - (at + 64 + n) ≡ round64 n - n = omega arith in
         let b : at + 64 + n ≡ at + (64 + n) = omega arith in
-        link_tests (state_at at first prev) (drop at f) n g k ∙ rw (head-is, a, b, drop-drop)
+        link_tests (state_at at prev) (drop at f) n g k ∙ rw (head-is, a, b, drop-drop)
 
-    pub step_unsound : head_sound (least_id first prev) head ≡ false → Stop ≡ step_at f at first prev
+    pub step_unsound : head_sound (least_id prev) head ≡ false → None ≡ step_at f at prev
     unfolding step_at step_of
     step_unsound h = rw (tests, h)
 
-    pub step_padding : head_sound (least_id first prev) head ≡ true → all_zero pad ≡ false → Stop ≡ step_at f at first prev
+    pub step_padding : head_sound (least_id prev) head ≡ true → all_zero pad ≡ false → None ≡ step_at f at prev
     unfolding step_at step_of
     step_padding h k = rw (tests, h, k)
 
-    pub step_sound : head_sound (least_id first prev) head ≡ true → all_zero pad ≡ true → (id flags : ℕ) → id ≡ le_at 8 head 0x08 → flags ≡ le_at 2 head 0x06
-        → Sound (at + 64 + m) id n (get_or head 0x05 0) flags ≡ step_at f at first prev
+    pub step_sound : head_sound (least_id prev) head ≡ true → all_zero pad ≡ true → (id flags : ℕ) → id ≡ le_at 8 head 0x08 → flags ≡ le_at 2 head 0x06
+        → Some (record { end = at + 64 + m; id = id; length = n; kind = get_or head 0x05 0; flags = flags }) ≡ step_at f at prev
     unfolding step_at step_of link_front size
     step_sound h k id flags p q =
         let s = drop at f in

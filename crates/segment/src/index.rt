@@ -4,8 +4,6 @@ ghost use Rattle.std.specs.Prelude.{◌≡◌, ◌≤◌, length, take};
 ghost use Rattle.segment.specs.Chained.{chain, offsets_of};
 ghost use Rattle.segment.specs.index.Offsets.{most};
 
-use crate::Step;
-
 // How many links can matter: a manifest has at most answers::limits::MAX_ENTRIES before it.
 pub const MOST: usize = answers::limits::MAX_ENTRIES + 1;
 
@@ -15,28 +13,15 @@ pub fn collect(file: &[u8], offsets: &mut [u64]) -> usize
     ensures answer { result ≡ length (take most (chain file.now)) }
     ensures offsets { take result offsets.new ≡ offsets_of (take most (chain file.now)) }
 {
-    let mut n: usize = 0;
     let mut at: usize = 0;
-    let mut first = true;
-    let mut prev: u64 = 0;
-    while n < MOST {
-        let step = crate::link::link_at(file, at, first, prev);
-        match step {
-            Step::Stop => return n,
-            Step::Sound {
-                end,
-                id,
-                length: _,
-                kind: _,
-                flags: _,
-            } => {
-                offsets[n] = at as u64;
-                n += 1;
-                at = end;
-                first = false;
-                prev = id;
-            }
-        }
+    let mut prev = None;
+    for (n, offset) in offsets[..MOST].iter_mut().enumerate() {
+        let Some(step) = crate::link::link_at(file, at, prev) else {
+            return n;
+        };
+        *offset = at as u64;
+        at = step.end;
+        prev = Some(step.id);
     }
-    n
+    MOST
 }

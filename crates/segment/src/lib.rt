@@ -17,18 +17,15 @@ ghost use Rattle.segment.specs.Step.{whole_at};
 // The bytes that a segment begins with, in file order.
 pub const MAGIC: [u8; 4] = [0x52, 0x56, 0x46, 0x53];
 
-// What a walk finds at a place: a link with its end, id, payload length, type and flags; or none, where the chain
-// stops.
-#[derive(Drop)]
-pub enum Step {
-    Sound {
-        end: usize,
-        id: u64,
-        length: usize,
-        kind: u8,
-        flags: u16,
-    },
-    Stop,
+// A link that a walk finds at a place: its end, id, payload length, type and flags.
+// Kept: a type is the format's byte; all of 0x01 to 0xFF are legal, most without a name (no plainer).
+#[derive(Clone, Copy)]
+pub struct Step {
+    pub end: usize,
+    pub id: u64,
+    pub length: usize,
+    pub kind: u8,
+    pub flags: u16,
 }
 
 // Whether a segment may have a type.
@@ -43,10 +40,7 @@ pub fn kind_held(kind: u8) -> bool
 pub fn kind_reserved(kind: u8) -> bool
     ensures { result ≡ type_reserved kind }
 {
-    if kind < 0x0E {
-        return false;
-    }
-    kind <= 0xEF
+    (0x0E..=0xEF).contains(&kind)
 }
 
 // Whether a segment may have such flags.

@@ -2,37 +2,33 @@
 // `refused n`.
 #![tactic(auto)]
 
-use answers::Wrote;
+use answers::Refusal;
 use std::io;
 
-fn line(rt: &impl Print, n: u64) -> io::Result<()> {
-    println!(rt; "{n}")
+// Kept: `show_reading` has the same three lines; a crate for them would be longer (no plainer).
+fn refused(rt: &impl Print, refusal: Refusal) -> io::Result<()> {
+    let number = refusal.number();
+    println!(rt; "refused {number}")
 }
 
-fn refused(rt: &impl Print, n: u64) -> io::Result<()> {
-    print!(rt; "refused ")?;
-    line(rt, n)
-}
-
-fn list(rt: &impl Print, ids: &[u64; 4096], count: u64) -> io::Result<()> {
-    for id in ids.iter().take(count as usize) {
-        line(rt, *id)?;
+fn list(rt: &impl Print, ids: &[u64]) -> io::Result<()> {
+    for id in ids {
+        println!(rt; "{id}")?;
     }
     Ok(())
 }
 
 fn show(rt: &impl Print, bytes: &[u8]) -> io::Result<()> {
     if bytes.len() < 7 {
-        return refused(rt, 5);
+        return refused(rt, Refusal::Layout);
     }
-    let count = u64::from(octets::le::u32_at(bytes, 3));
+    let count = octets::le::u32_at(bytes, 3) as usize;
     let mut ids = [0u64; 4096];
-    match idmap_read::read(bytes, count, &mut ids) {
-        Wrote::Refused(e) => refused(rt, u64::from(e)),
-        Wrote::Length(n) => {
-            print!(rt; "length ")?;
-            line(rt, n as u64)?;
-            list(rt, &ids, count)
+    match idmap_read::read(bytes, count as u64, &mut ids) {
+        Err(refusal) => refused(rt, refusal),
+        Ok(n) => {
+            println!(rt; "length {n}")?;
+            list(rt, &ids[..count.min(ids.len())])
         }
     }
 }

@@ -1,7 +1,7 @@
 -- Laws of what is read: where the reading loop stands, and its ways out.
 -- Assumes nothing.
 use Prim.Native.Nat.{ℕ, suc, ◌+◌, ◌-◌, ◌*◌, ◌^◌, ◌≤◌, ◌<◌}
-use Rattle.std.specs.Prelude.{◌≡◌, refl, List, Bool, cond, ltb, length, drop}
+use Rattle.std.specs.Prelude.{◌≡◌, refl, List, Bool, cond, ltb, length, drop, Result, Ok, Err}
 use Rattle.std.proofs.Common.{sym, ap, ◌∙◌, mul-add, mul-one, mul_assoc, add_assoc, mul-le-mul_left, pow-suc, add-one, lit<}
 use Rattle.std.proofs.Math.Bool.{true, false}
 use Rattle.std.proofs.Math.Nat.{pow-le-pow_right}
@@ -11,29 +11,34 @@ use Rattle.std.proofs.Math.ListN.{get_or, drop_of_length-le}
 use Rattle.std.proofs.Math.Seq.{drop-cons}
 use borrow.Author.Tests.{lt-ltb, le-ltb, eq-eqb, ne_eqb, eqb-true, eqb-false, ltb-true, ltb-false}
 use Rattle.varint.specs.declared.Varint.{Varint}
-use Rattle.varint.specs.declared.Varint.TheVariants.{Value, Refused}
-use Rattle.varint.specs.Varint.{bad, more, decode, below64, read_varint, onto}
+use Rattle.varint.specs.Varint.{read_as, bad, more, decode, below64, read_varint, onto}
 
-first_more : (b : ℕ) (r : Varint) → below64 (more b r) ≡ onto 1 (b - 128) 128 r
+first_more : (b : ℕ) (r : Result Varint ℕ) → below64 (more b r) ≡ onto 1 (b - 128) 128 r
 unfolding onto more below64
-first_more b (Refused e) = refl
-first_more b (Value v n) = pick (eqb v 0)
+first_more b (Err e) = refl
+first_more b (Ok r) = pick (eqb r.value 0)
   where
-    pick : (t : Bool) → below64 (cond t bad (Value (b - 128 + 128 * v) (n + 1)))
-        ≡ cond t bad (cond (ltb (b - 128 + 128 * v) (2 ^ 64)) (Value (b - 128 + 128 * v) (1 + n)) bad)
+    pick : (t : Bool) → below64 (cond t bad (read_as (b - 128 + 128 * r.value) (r.length + 1)))
+        ≡ cond t bad (cond (ltb (b - 128 + 128 * r.value) (2 ^ 64)) (read_as (b - 128 + 128 * r.value) (1 + r.length)) bad)
     pick true = refl
     pick false =
-        let e : n + 1 ≡ 1 + n = omega arith in
+        let e : r.length + 1 ≡ 1 + r.length = omega arith in
         rw e
 
 -- one byte more is read
-next_more : (i acc p b : ℕ) (r : Varint) → onto i acc p (more b r) ≡ onto (i + 1) (acc + p * (b - 128)) (p * 128) r
+next_more : (i acc p b : ℕ) (r : Result Varint ℕ) → onto i acc p (more b r) ≡ onto (i + 1) (acc + p * (b - 128)) (p * 128) r
 unfolding onto more
-next_more i acc p b (Refused e) = refl
-next_more i acc p b (Value v n) = pick (eqb v 0) refl
+next_more i acc p b (Err e) = refl
+next_more i acc p b (Ok r) = pick (eqb r.value 0) refl
   where
-    pick : (t : Bool) → eqb v 0 ≡ t → onto i acc p (cond t bad (Value (b - 128 + 128 * v) (n + 1)))
-        ≡ cond t bad (cond (ltb (acc + p * (b - 128) + p * 128 * v) (2 ^ 64)) (Value (acc + p * (b - 128) + p * 128 * v) (i + 1 + n)) bad)
+    v : ℕ
+    v = r.value
+
+    n : ℕ
+    n = r.length
+
+    pick : (t : Bool) → eqb v 0 ≡ t → onto i acc p (cond t bad (read_as (b - 128 + 128 * v) (n + 1)))
+        ≡ cond t bad (cond (ltb (acc + p * (b - 128) + p * 128 * v) (2 ^ 64)) (read_as (acc + p * (b - 128) + p * 128 * v) (i + 1 + n)) bad)
     pick true t = refl
     pick false t =
         let nz : eqb (b - 128 + 128 * v) 0 ≡ false = ne_eqb (b - 128 + 128 * v) 0 (λ q. eqb-false v 0 t (omega arith)) in
@@ -79,7 +84,7 @@ stands_next i acc p b s h hb hb' =
 -- ---- the ways out, of what is left of the list s behind i bytes from a place
 module _ (s : List ℕ) (at i acc p : ℕ) where
   -- what is still to be read
-  unfoldable pub Left : Varint
+  unfoldable pub Left : Result Varint ℕ
   Left = onto i acc p (decode (10 - i) (drop (at + i) s))
 
 module _ (s : List ℕ) (at i acc p : ℕ) (at_most : i ≤ 9) where
@@ -91,7 +96,7 @@ module _ (s : List ℕ) (at i acc p : ℕ) (at_most : i ≤ 9) where
   left_none h = rw (fuel, drop_of_length-le s {i = at + i} h)
 
   -- a last byte
-  left-last : at + i < length s → get_or s (at + i) 0 < 128 → Left s at i acc p ≡ onto i acc p (Value (get_or s (at + i) 0) 1)
+  left-last : at + i < length s → get_or s (at + i) 0 < 128 → Left s at i acc p ≡ onto i acc p (read_as (get_or s (at + i) 0) 1)
   unfolding Left decode
   left-last h k = rw (fuel, drop-cons s (at + i) 0 h, lt-ltb (get_or s (at + i) 0) 128 k)
 
@@ -117,7 +122,7 @@ module _ (s : List ℕ) (at i acc p : ℕ) (at_most : i ≤ 9) where
         let e : eqb (get_or s (at + i) 0) 0 ≡ true = eq-eqb (get_or s (at + i) 0) 0 (omega arith) in
         rw (left-last h k, e)
 
-    pub left_value : b < 128 → (b ≡ 0 → ⊥) → acc + p * b < 2 ^ 64 → Value (acc + p * b) (i + 1) ≡ Left s at i acc p
+    pub left_value : b < 128 → (b ≡ 0 → ⊥) → acc + p * b < 2 ^ 64 → read_as (acc + p * b) (i + 1) ≡ Left s at i acc p
     unfolding onto
     left_value k z f =
         let k2 : get_or s (at + i) 0 < 128 = omega arith in
@@ -140,7 +145,7 @@ module _ (s : List ℕ) (at i acc p : ℕ) (at_most : i ≤ 9) where
         rw (left-more h k2, e)
 
     -- the tenth byte is 1, or the varint is bad
-    pub tenth_one : i ≡ 9 → ReadSoFar i acc p → b ≡ 1 → Value (acc + p) 10 ≡ Left s at i acc p
+    pub tenth_one : i ≡ 9 → ReadSoFar i acc p → b ≡ 1 → read_as (acc + p) 10 ≡ Left s at i acc p
     tenth_one n st o =
         let w : p ≡ 2 ^ 63 = (rw n at st.weight) in
         let l = st.low in
@@ -168,7 +173,7 @@ module _ (s : List ℕ) (at : ℕ) where
   unfolding read_varint decode below64
   read_none h = rw (drop_of_length-le s {i = at} h)
 
-  pub read_one : (b : ℕ) → b ≡ get_or s at 0 → at < length s → b < 128 → Value b 1 ≡ read_varint (drop at s)
+  pub read_one : (b : ℕ) → b ≡ get_or s at 0 → at < length s → b < 128 → read_as b 1 ≡ read_varint (drop at s)
   unfolding read_varint decode below64
   read_one b is h k =
       let f : b < 2 ^ 64 = omega arith in

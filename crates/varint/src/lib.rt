@@ -4,86 +4,103 @@
 pub mod write;
 
 ghost use Rattle.std.specs.Prelude.{◌≡◌, ◌+◌, ◌<◌, length, drop};
-ghost use Rattle.varint.specs.Varint.{read_varint, onto, decode};
+ghost use Rattle.answers.specs.Answer.{numbered};
+ghost use Rattle.varint.specs.Varint.{read_varint, read_or_bad, onto, decode};
 
-// What reading a varint answers: its value and how many bytes it took, or the number of a refusal.
-#[derive(Drop)]
-pub enum Varint {
-    Value { value: u64, length: usize },
-    Refused(u32),
+use answers::Refusal;
+
+// A varint that was read: its value, and how many bytes it took.
+#[derive(Clone, Copy)]
+pub struct Varint {
+    pub value: u64,
+    pub length: usize,
 }
 
 // The varint at a place of a slice.
-pub fn read_at(s: &[u8], at: usize) -> Varint
-    ensures { result ≡ read_varint (drop at s.now) }
+pub fn read_at(s: &[u8], at: usize) -> Result<Varint, Refusal>
+    ensures { numbered result ≡ read_varint (drop at s.now) }
 {
     if s.len() <= at {
-        return Varint::Refused(5);
+        return Err(Refusal::Layout);
     }
     let b = octets::wide(s[at]);
     if b < 128 {
-        return Varint::Value {
+        return Ok(Varint {
             value: b,
             length: 1,
-        };
+        });
     }
-    read_rest(s, at, b - 128)
+    let long = read_rest(s, at, b - 128);
+    if long.length == 0 {
+        return Err(Refusal::Layout);
+    }
+    Ok(long)
 }
 
-// What follows a first byte of 128 or more.
+// What a varint that breaks a rule is read as, behind its first byte.
+const BROKEN: Varint = Varint {
+    value: 0,
+    length: 0,
+};
+
+// What follows a first byte of 128 or more; of length 0 where it breaks a rule.
+// Kept: a length of 0 for a refusal. Of a Result the place in memory is cleared for each varint that is read, also for
+// one of a single byte, which makes a loop over short ones a quarter slower (tried and misses the speed bar).
 fn read_rest(s: &[u8], at: usize, first: u64) -> Varint
     requires { (at < length s.now) × (first < 128) }
-    ensures { result ≡ onto 1 first 128 (decode 9 (drop (at + 1) s.now)) }
+    ensures { read_or_bad result ≡ onto 1 first 128 (decode 9 (drop (at + 1) s.now)) }
 {
-    let mut i: usize = 1;
     let mut acc = first;
     let mut p: u64 = 128;
-    while i < 9 {
+    for i in 1..9usize {
         if s.len() - at <= i {
-            return Varint::Refused(5);
+            return BROKEN;
         }
         let b = octets::wide(s[at + i]);
         if b == 0 {
-            return Varint::Refused(5);
+            return BROKEN;
         }
         if b < 128 {
-            return Varint::Value {
+            return Varint {
                 value: acc + p * b,
                 length: i + 1,
             };
         }
-        acc = acc + p * (b - 128);
-        p = p * 128;
-        i += 1;
+        acc += p * (b - 128);
+        p *= 128;
     }
     if s.len() - at <= 9 {
-        return Varint::Refused(5);
+        return BROKEN;
     }
     let b = octets::wide(s[at + 9]);
     if b == 1 {
-        return Varint::Value {
+        return Varint {
             value: acc + p,
             length: 10,
         };
     }
-    Varint::Refused(5)
+    BROKEN
 }
 
 // The varint at the front of a slice; more bytes may follow. It goes the way of `read_at` itself: with two callers
 // the loop of `read_rest` stays a function of its own, and the short way of a one-byte varint is compiled into the
 // loops that read many.
-pub fn read(s: &[u8]) -> Varint
-    ensures { result ≡ read_varint s.now }
+pub fn read(s: &[u8]) -> Result<Varint, Refusal>
+    ensures { numbered result ≡ read_varint s.now }
 {
     if s.len() == 0 {
-        return Varint::Refused(5);
+        return Err(Refusal::Layout);
     }
     let b = octets::wide(s[0]);
     if b < 128 {
-        return Varint::Value {
+        return Ok(Varint {
             value: b,
             length: 1,
-        };
+        });
     }
-    read_rest(s, 0, b - 128)
+    let long = read_rest(s, 0, b - 128);
+    if long.length == 0 {
+        return Err(Refusal::Layout);
+    }
+    Ok(long)
 }

@@ -10,34 +10,25 @@ pub mod walk;
 pub mod width;
 
 ghost use Rattle.std.specs.Prelude.{◌≡◌};
+ghost use Rattle.answers.specs.Answer.{numbered};
 ghost use Rattle.vecseg.specs.Vector.{vector_in, vector_buffer};
 
-use crate::walk::Searched;
-use answers::Wrote;
+use answers::Refusal;
 use vecseg::Vector;
 
 // 5, 6, 7 for a payload that is not sound; 8 where no block holds the id; 9 where the buffer is short.
-pub fn read(payload: &[u8], id: u64, buf: &mut [u8]) -> Vector
-    ensures answer { result ≡ vector_in payload.now id buf.old }
+pub fn read(payload: &[u8], id: u64, buf: &mut [u8]) -> Result<Vector, Refusal>
+    ensures answer { numbered result ≡ vector_in payload.now id buf.old }
     ensures buf { buf.new ≡ vector_buffer payload.now id buf.old }
 {
-    let found = crate::walk::walk(payload, id, false, true);
-    match found {
-        Searched::Refused(number) => Vector::Refused(number),
-        Searched::Missing(_) => Vector::Refused(8),
-        Searched::At {
-            sum: _,
-            offset,
-            count,
-            dim,
-            dtype,
-            index,
-        } => {
-            let w = crate::values::read_vector(payload, offset, count, dim, dtype, index, buf);
-            match w {
-                Wrote::Refused(e) => Vector::Refused(e),
-                Wrote::Length(length) => Vector::Read { dim, dtype, length },
-            }
-        }
-    }
+    let found = crate::walk::walk(payload, Some(id), false)?;
+    let Some(place) = found.place else {
+        return Err(Refusal::NoVector);
+    };
+    let length = crate::values::read_vector(payload, place, buf)?;
+    Ok(Vector {
+        dim: place.dim,
+        dtype: place.dtype,
+        length,
+    })
 }

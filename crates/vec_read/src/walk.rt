@@ -1,55 +1,36 @@
 // One walk over a VEC_SEG payload's blocks that checks them. On its way it joins the payload's checksum from those of
 // the blocks, and looks for a vector id among the ids that the check has just read, where it is asked to.
-ghost use Rattle.std.specs.Prelude.{◌≡◌, ◌≤◌, length, take};
-ghost use Rattle.octets.specs.numbers.Numbers.{index_of, index_answer};
+ghost use Rattle.std.specs.Prelude.{◌≡◌, ◌≤◌, length};
+ghost use Rattle.octets.specs.Options.{option_of};
+ghost use Rattle.answers.specs.Answer.{numbered};
 ghost use Rattle.answers.specs.limits.Limits.{max_vectors};
 ghost use Rattle.vec_read.specs.lines.Directory.{DirectoryGood};
 ghost use Rattle.vec_read.specs.lines.Counts.{CountsFit};
 ghost use Rattle.vec_read.specs.walk.Walk.{summed_of, searched_of, sum_of, asked_of, walked_of};
 ghost use Rattle.vec_read.specs.walk.Sum.{SumTo, Holds};
 
-use crate::block::Block;
-use octets::numbers::Index;
+use answers::Refusal;
 
-// What a check that keeps the payload's checksum answers.
-#[derive(Drop)]
-pub enum Summed {
-    Sound(u32),
-    Refused(u32),
+// Where a vector stands: its block's offset, count, dim and dtype, and which vector of the block it is.
+#[derive(Clone, Copy)]
+pub struct Place {
+    pub offset: usize,
+    pub count: usize,
+    pub dim: usize,
+    pub dtype: u8,
+    pub index: usize,
 }
 
-// What a search that checks the payload on its way answers: where the vector stands (its block's offset, count, dim
-// and dtype, and which vector of the block it is) or that it is missing, each with the payload's checksum; or the
-// number that refuses the payload.
-#[derive(Drop)]
-pub enum Searched {
-    At {
-        sum: u32,
-        offset: usize,
-        count: usize,
-        dim: usize,
-        dtype: u8,
-        index: usize,
-    },
-    Missing(u32),
-    Refused(u32),
-}
-
-// The place that is kept on the way: of the last block so far that holds the id.
-#[derive(Drop)]
-pub enum Kept {
-    At {
-        offset: usize,
-        count: usize,
-        dim: usize,
-        dtype: u8,
-        index: usize,
-    },
-    Nowhere,
+// What a search that checks the payload on its way finds: the payload's checksum, and the vector's place where a block
+// holds it.
+#[derive(Clone, Copy)]
+pub struct Searched {
+    pub sum: u32,
+    pub place: Option<Place>,
 }
 
 // The checksum of all that stands before a place.
-#[derive(Drop)]
+#[derive(Clone, Copy)]
 pub struct Sum {
     value: u32,
     to: usize,
@@ -92,136 +73,99 @@ fn sum_all(summed: bool, sum: Sum, s: &[u8]) -> u32
     crc32c::extend(sum.value, &s[from..])
 }
 
-// Where the id stands among those of a block, which are at hand; nowhere where none is looked for.
-fn look(looking: bool, ids: &[u64], count: usize, id: u64) -> Index
-    requires { count ≤ length ids.now }
-    ensures { result ≡ index_answer (asked_of looking (index_of id (take count ids.now))) }
+// Where the id stands among those of a block; nowhere where none is looked for.
+fn look(ids: &[u64], id: Option<u64>) -> Option<usize>
+    ensures { result ≡ option_of (asked_of id ids.now) }
 {
-    if !looking {
-        return Index::Nowhere;
+    match id {
+        None => None,
+        Some(x) => octets::numbers::index_of(ids, x),
     }
-    octets::numbers::index_of(ids, count, id)
 }
 
 // The blocks of a payload whose directory is good; each is handed over as the part of the payload from its place. Ids
 // may repeat, and the last copy counts. A place is written only where the id is found: written anew behind each block,
 // it takes as long as all else that this loop does itself.
-fn walk_blocks(s: &[u8], id: u64, summed: bool, looking: bool, scratch: &mut [u64]) -> Searched
+fn walk_blocks(
+    s: &[u8],
+    id: Option<u64>,
+    summed: bool,
+    scratch: &mut [u64],
+) -> Result<Searched, Refusal>
     requires { (DirectoryGood s.now) × (CountsFit s.now (length scratch.old)) }
-    ensures { result ≡ walked_of summed looking s.now id }
+    ensures { numbered result ≡ walked_of summed s.now id }
 {
     let blocks = octets::le::u32_at(s, 0) as usize;
     let mut sum = Sum { value: 0, to: 0 };
-    let mut kept = Kept::Nowhere;
-    let mut i: usize = 0;
+    let mut kept: Option<Place> = None;
     let mut at = octets::round_up(4 + 12 * blocks);
-    while i < blocks {
+    for i in 0..blocks {
         let line = 4 + 12 * i;
         if octets::le::u32_at(s, line) as usize != at {
-            return Searched::Refused(5);
+            return Err(Refusal::Layout);
         }
         let count = octets::le::u32_at(s, line + 4) as usize;
         let dim = octets::le::u16_at(s, line + 8) as usize;
         let dtype = s[line + 10];
-        let b = crate::block::check_block(&s[at..], count, dim, dtype, scratch);
-        match b {
-            Block::Refused(number) => return Searched::Refused(number),
-            Block::Sound(n) => {
-                sum = sum_on(summed, sum, s, at, at + n);
-                let place = look(looking, scratch, count, id);
-                if let Index::Place(index) = place {
-                    kept = Kept::At {
-                        offset: at,
-                        count,
-                        dim,
-                        dtype,
-                        index,
-                    };
-                }
-                at += octets::round_up(n + 4);
-                i += 1;
-            }
+        let n = crate::block::check_block(&s[at..], count, dim, dtype, scratch)?;
+        sum = sum_on(summed, sum, s, at, at + n);
+        if let Some(index) = look(&scratch[..count], id) {
+            kept = Some(Place {
+                offset: at,
+                count,
+                dim,
+                dtype,
+                index,
+            });
         }
+        at += octets::round_up(n + 4);
     }
     if s.len() != at {
-        return Searched::Refused(5);
+        return Err(Refusal::Layout);
     }
-    let all = sum_all(summed, sum, s);
-    match kept {
-        Kept::Nowhere => Searched::Missing(all),
-        Kept::At {
-            offset,
-            count,
-            dim,
-            dtype,
-            index,
-        } => Searched::At {
-            sum: all,
-            offset,
-            count,
-            dim,
-            dtype,
-            index,
-        },
-    }
+    Ok(Searched {
+        sum: sum_all(summed, sum, s),
+        place: kept,
+    })
 }
 
 // How many ids the short list of our own takes. A list for the largest block that may be takes longer to clear than a
 // small payload to check.
 const FEW: usize = 256;
 
-// The walk with a short list of our own for the ids of a block.
-fn walk_few(s: &[u8], id: u64, summed: bool, looking: bool) -> Searched
-    requires { (DirectoryGood s.now) × (CountsFit s.now 256) }
-    ensures { result ≡ walked_of summed looking s.now id }
+// The walk with a list of our own for N ids, of a payload whose blocks have no more.
+fn walk_with<const N: usize>(s: &[u8], id: Option<u64>, summed: bool) -> Result<Searched, Refusal>
+    requires { (N ≤ max_vectors) × ((DirectoryGood s.now) × (CountsFit s.now N)) }
+    ensures { numbered result ≡ walked_of summed s.now id }
 {
-    let mut scratch = [0u64; FEW];
-    walk_blocks(s, id, summed, looking, &mut scratch)
-}
-
-// The walk with a list of our own that takes the ids of any block.
-fn walk_many(s: &[u8], id: u64, summed: bool, looking: bool) -> Searched
-    requires { DirectoryGood s.now }
-    ensures { result ≡ walked_of summed looking s.now id }
-{
-    let mut scratch = [0u64; answers::limits::MAX_VECTORS];
-    walk_blocks(s, id, summed, looking, &mut scratch)
+    let mut scratch = [0u64; N];
+    walk_blocks(s, id, summed, &mut scratch)
 }
 
 // The walk with a list of our own, as short as the counts of the blocks allow.
-pub fn walk(s: &[u8], id: u64, summed: bool, looking: bool) -> Searched
-    ensures { result ≡ walked_of summed looking s.now id }
+pub fn walk(s: &[u8], id: Option<u64>, summed: bool) -> Result<Searched, Refusal>
+    ensures { numbered result ≡ walked_of summed s.now id }
 {
-    let bad = crate::lines::check_directory(s);
-    if bad != 0 {
-        return Searched::Refused(bad);
-    }
+    crate::lines::check_directory(s)?;
     if crate::lines::largest_count(s) <= FEW {
-        return walk_few(s, id, summed, looking);
+        return walk_with::<FEW>(s, id, summed);
     }
-    walk_many(s, id, summed, looking)
+    walk_with::<{ answers::limits::MAX_VECTORS }>(s, id, summed)
 }
 
 // The check that keeps the payload's checksum.
-pub fn check_summed(s: &[u8]) -> Summed
-    ensures { result ≡ summed_of s.now }
+pub fn check_summed(s: &[u8]) -> Result<u32, Refusal>
+    ensures { numbered result ≡ summed_of s.now }
 {
-    let w = walk(s, 0, true, false);
-    match w {
-        Searched::Refused(number) => Summed::Refused(number),
-        Searched::Missing(sum) => Summed::Sound(sum),
-        Searched::At { sum, .. } => Summed::Sound(sum),
-    }
+    let searched = walk(s, None, true)?;
+    Ok(searched.sum)
 }
 
 // The search, with the caller's list for the ids of a block.
-pub fn search(s: &[u8], id: u64, scratch: &mut [u64]) -> Searched
+pub fn search(s: &[u8], id: u64, scratch: &mut [u64]) -> Result<Searched, Refusal>
     requires { max_vectors ≤ length scratch.old }
-    ensures { result ≡ searched_of s.now id }
+    ensures { numbered result ≡ searched_of s.now id }
 {
-    let bad = crate::lines::check_directory(s);
-    if bad != 0 {
-        return Searched::Refused(bad);
-    }
-    walk_blocks(s, id, true, true, scratch)
+    crate::lines::check_directory(s)?;
+    walk_blocks(s, Some(id), true, scratch)
 }

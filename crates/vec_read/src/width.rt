@@ -6,14 +6,10 @@ ghost use Rattle.vecseg.specs.Payload.{width};
 pub fn width_of(dtype: u64) -> usize
     ensures { result ≡ width dtype }
 {
-    if dtype == 0 {
-        return 4;
+    match dtype {
+        0 => 4,
+        3 => 1,
+        4 => 1,
+        _ => 0,
     }
-    if dtype == 3 {
-        return 1;
-    }
-    if dtype == 4 {
-        return 1;
-    }
-    0
 }

@@ -1,6 +1,6 @@
 -- Laws of a block and of the blocks of a payload: the ways out of their checks, and where a loop over the blocks stands.
 -- Assumes nothing.
-use Rattle.std.specs.Prelude.{ℕ, suc, ◌+◌, ◌-◌, ◌*◌, ◌≤◌, ◌<◌, ◌≡◌, refl, Bool, true, false, cond, ◌&&◌, List, eqb, leb, length, take, drop}
+use Rattle.std.specs.Prelude.{Ok, Err, ℕ, suc, ◌+◌, ◌-◌, ◌*◌, ◌≤◌, ◌<◌, ◌≡◌, refl, Bool, true, false, cond, ◌&&◌, List, eqb, leb, length, take, drop}
 use Rattle.std.proofs.Math.Path.{sym, ap}
 use Rattle.std.proofs.Common.{◌∙◌, drop-drop}
 use native.Mathlib.Omega.{arith}
@@ -10,7 +10,6 @@ use Rattle.octets.specs.Round.{round64}
 use Rattle.octets.specs.Zero.{all_zero}
 use Rattle.octets.specs.le.Le.{le_at}
 use Rattle.crc32c.specs.Crc.{crc_of}
-use Rattle.answers.specs.declared.Wrote.TheVariants.{Length, Refused}
 use Rattle.idmap.specs.Decode.{MapRead, Whole, Broken, map_of, ids_of, map_answer}
 use Rattle.idmap.proofs.DecodeLaws.{was_broken, was_whole}
 use Rattle.idmap.proofs.Count.{whole_count}
@@ -68,11 +67,11 @@ module _ (l : Line) (s : List ℕ) where
     unfolding block_of
     to_map = rw (le-leb (columns_length l) (length s) room)
 
-    pub block_broken : (e : ℕ) → map_answer (map_of l.count (drop (columns_length l) s)) ≡ Refused e → block_of l s ≡ BadBlock 5
+    pub block_broken : (e : ℕ) → map_answer (map_of l.count (drop (columns_length l) s)) ≡ Err e → block_of l s ≡ BadBlock 5
     unfolding block_map
     block_broken e p = to_map ∙ rw (was_broken (map_of l.count (drop (columns_length l) s)) e p)
 
-    module _ (n : ℕ) (p : map_answer (map_of l.count (drop (columns_length l) s)) ≡ Length n) where
+    module _ (n : ℕ) (p : map_answer (map_of l.count (drop (columns_length l) s)) ≡ Ok n) where
       whole : map_of l.count (drop (columns_length l) s) ≡ Whole n (ids_of (map_of l.count (drop (columns_length l) s)))
       whole = was_whole (map_of l.count (drop (columns_length l) s)) n p
 

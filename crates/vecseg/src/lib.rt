@@ -4,15 +4,12 @@
 // The type of a VEC_SEG.
 pub const KIND: u8 = 0x01;
 
-// What reading a vector answers: dim, dtype and the length written, or the number of a refusal.
-#[derive(Drop)]
-pub enum Vector {
-    Read {
-        dim: usize,
-        dtype: u8,
-        length: usize,
-    },
-    Refused(u32),
+// A vector that was read: dim, dtype and the length written.
+#[derive(Clone, Copy)]
+pub struct Vector {
+    pub dim: usize,
+    pub dtype: u8,
+    pub length: usize,
 }
 
 // A component: a float, a signed or an unsigned small number.

@@ -1,9 +1,8 @@
 -- The cases that document 01 marks (P) under 'Worked numbers': one table, and one statement that all its lines hold. Each layer adds its lines here.
 -- Assumes nothing.
-use Rattle.std.specs.Prelude.{ℕ, ◌-◌, ◌^◌, ◌≤◌, ◌<◌, ◌≡◌, List, [], ◌∷◌, ◌++◌, length, take, replicate}
+use Rattle.std.specs.Prelude.{ℕ, ◌-◌, ◌^◌, ◌≤◌, ◌<◌, ◌≡◌, List, [], ◌∷◌, ◌++◌, length, take, replicate, Err}
 use Rattle.std.proofs.Math.Option.{none}
 use Rattle.answers.specs.Answer.{Accepted, Refusal}
-use Rattle.varint.specs.declared.Varint.TheVariants.{Refused}
 use Rattle.varint.specs.Varint.{varint_of, read_varint}
 use Rattle.idmap.specs.Encode.{map_bytes}
 use Rattle.batch.specs.Form.{bodies_of}
@@ -22,7 +21,7 @@ pub record Table : Type 0 where
   pub v128_is : varint_of 128 ≡ 0x80 ∷ 0x01 ∷ []
   pub v16384_is : varint_of 16384 ≡ 0x80 ∷ 0x80 ∷ 0x01 ∷ []
   pub largest_is : varint_of (2 ^ 64 - 1) ≡ replicate 9 0xFF ++ (0x01 ∷ [])
-  pub not_shortest : read_varint (0x80 ∷ 0x00 ∷ []) ≡ Refused 5
+  pub not_shortest : read_varint (0x80 ∷ 0x00 ∷ []) ≡ Err 5
   -- id maps: encoding 1, the interval, the count 5; then the restart offsets, then the varints
   pub interval_64 : map_bytes example 1 64 ≡ (1 ∷ 64 ∷ 0 ∷ 5 ∷ 0 ∷ 0 ∷ 0 ∷ []) ++ ((0 ∷ 0 ∷ 0 ∷ 0 ∷ []) ++ (0x64 ∷ 0x05 ∷ 0x03 ∷ 0x0C ∷ 0x50 ∷ []))
   pub interval_2 : map_bytes example 1 2

@@ -9,7 +9,7 @@ use Rattle.octets.specs.Round.{round64}
 use Rattle.octets.specs.le.Le.{le_at}
 use Rattle.segment.specs.Written.{segment}
 use Rattle.segment.proofs.WrittenLaws.{segment_length}
-use Rattle.batch.specs.Form.{bodies_of}
+use Rattle.batch.specs.Form.{Body, bodies_of}
 use Rattle.batch.specs.Lines.{no_body}
 use Rattle.batch.proofs.Lines.{BodyAt}
 use Rattle.appending.specs.Append.{body_size}
@@ -44,3 +44,10 @@ module _ (s : List ℕ) (j : ℕ) (a : BodyAt s j) (from len : ℕ) (f : from �
   pub body_length : (kind flags id ts : ℕ) → length (segment kind flags id ts (take (from + len - from) (drop from s))) ≡ body_size (get_or (bodies_of s) j no_body)
   body_length kind flags id ts =
       segment_length kind flags id ts (take (from + len - from) (drop from s)) ∙ ap (λ (x : List ℕ). 64 + round64 (length x)) body_part
+
+-- a body by its type, flags and bytes, as they were read off the batch
+pub body_written : (b : Body) (kind flags : ℕ) (payload : List ℕ) → kind ≡ b.kind → flags ≡ b.flags → payload ≡ b.payload → (id ts : ℕ)
+    → (segment kind flags id ts payload ≡ segment b.kind b.flags id ts b.payload) × (length (segment kind flags id ts payload) ≡ body_size b)
+body_written b kind flags payload k g p id ts =
+    let e : segment kind flags id ts payload ≡ segment b.kind b.flags id ts b.payload = rw (k, g, p) in
+    (e, ap length e ∙ segment_length b.kind b.flags id ts b.payload)

@@ -1,7 +1,8 @@
 -- The laws of specs/commit/Base.antt.
 -- Assumes nothing.
+use Rattle.std.specs.Prelude.{Option as Maybe}
 use Prim.Native.Nat.{ℕ, ◌+◌, ◌^◌, ◌≤◌, ◌<◌}
-use Rattle.std.specs.Prelude.{◌≡◌, refl, Bool, take, drop}
+use Rattle.std.specs.Prelude.{◌≡◌, refl, take, drop}
 use Rattle.std.proofs.Math.Path.{sym, ap, ap₂}
 use Rattle.std.proofs.Common.{subst, ◌∙◌, arith, take_all}
 use Rattle.std.proofs.Math.Option.{Option}
@@ -42,7 +43,7 @@ kept_opens f =
 
 -- ---- the bytes up to the new manifest
 
-module _ (g offsets : List ℕ) (begin kept-count : ℕ) (first : Bool) (last-id : ℕ) (y : Base g offsets begin kept-count first last-id)
+module _ (g offsets : List ℕ) (begin kept-count : ℕ) (last-id : Maybe ℕ) (y : Base g offsets begin kept-count last-id)
     (bs : List Body) (t : All BodyHeld bs) (ts : ℕ) (ts-fits : ts < 2 ^ 64) (ids-fit : next_id (opened g) + length bs < 2 ^ 64) (end_fits : bodies_end begin bs ≤ max_file) where
   abbrev o : Option (Found Link)
   o = opened g

@@ -1,8 +1,9 @@
 -- The end of an append: the bodies are written behind what is kept, then the manifest. What stands in the buffer then, and that no number on the way is
 -- too large.
 -- Assumes nothing.
+use Rattle.std.specs.Prelude.{Option as Maybe}
 use Prim.Native.Nat.{ℕ, zero, suc, ◌+◌, ◌-◌, ◌*◌, ◌^◌, ◌≤◌, ◌<◌}
-use Rattle.std.specs.Prelude.{◌≡◌, Bool, true, ◌&&◌, leb, length, drop}
+use Rattle.std.specs.Prelude.{◌≡◌, true, ◌&&◌, leb, length, drop}
 use Rattle.std.proofs.Common.{sym, ◌∙◌, arith, length-take}
 use Rattle.std.proofs.Math.Path.{ap, subst}
 use Rattle.std.proofs.Math.Option.{Option}
@@ -60,8 +61,8 @@ bodies_most batch start e h =
 
 -- ---- what is written
 
-module _ (old offsets batch : List ℕ) (begin kept-count : ℕ) (first : Bool) (last-id : ℕ) (y : Base (take begin old) offsets begin kept-count first last-id)
-    (held : batch_held batch ≡ true) (ts : ℕ) (ts-fits : ts < 2 ^ 64) (next m : ℕ) (n-is : next ≡ next_id_of first last-id) (m-is : m ≡ body_count batch) (ids-fit : next + m < 2 ^ 64)
+module _ (old offsets batch : List ℕ) (begin kept-count : ℕ) (last-id : Maybe ℕ) (y : Base (take begin old) offsets begin kept-count last-id)
+    (held : batch_held batch ≡ true) (ts : ℕ) (ts-fits : ts < 2 ^ 64) (next m : ℕ) (n-is : next ≡ next_id_of last-id) (m-is : m ≡ body_count batch) (ids-fit : next + m < 2 ^ 64)
     (at : ℕ) (at_is : at ≡ bodies_end begin (bodies_of batch)) (at-fits : at ≤ max_file) (room : at ≤ length old) (many : kept-count + m ≤ length offsets)
     (buf os : List ℕ) (laid : buf ≡ over old begin (body_bytes next ts (bodies_of batch)))
     (stored : os ≡ over offsets kept-count (offsets_of (body_links begin next ts (bodies_of batch)))) where
@@ -103,7 +104,7 @@ module _ (old offsets batch : List ℕ) (begin kept-count : ℕ) (first : Bool) 
   written_inside =
       subst (λ (x : List ℕ). Inside x (take (kept-count + m) os)) (sym front_is)
       (subst (Inside (take begin old ++ body_bytes (next_id o) ts bs)) (sym count_is)
-      (new_inside (take begin old) offsets begin kept-count first last-id y bs (bodies_held batch held) ts ts-fits fit small os stored_next (omega (arith, m-length))))
+      (new_inside (take begin old) offsets begin kept-count last-id y bs (bodies_held batch held) ts ts-fits fit small os stored_next (omega (arith, m-length))))
 
   pub written_long : length buf ≡ length old
   written_long = ap length laid_next ∙ length_over old begin (body_bytes (next_id o) ts bs) (omega (arith, bytes-end))
@@ -122,7 +123,7 @@ module _ (old offsets batch : List ℕ) (begin kept-count : ℕ) (first : Bool) 
       ≡ manifest_payload (new_links o bs ts) (take (new_count o bs) states) (manifest_at o bs) (manifest_id o bs) =
       ap (λ (z : List ℕ). payload_at z (take (kept-count + m) os) (take (kept-count + m) states) at id) front_is
       ∙ ap (λ (z : List ℕ). payload_at (take begin old ++ body_bytes (next_id o) ts bs) z (take (kept-count + m) states) at id) count_is
-      ∙ new_payload (take begin old) offsets begin kept-count first last-id y bs (bodies_held batch held) ts ts-fits fit small os stored_next (omega (arith, m-length)) bf
+      ∙ new_payload (take begin old) offsets begin kept-count last-id y bs (bodies_held batch held) ts ts-fits fit small os stored_next (omega (arith, m-length)) bf
       (take (kept-count + m) states) at id
       ∙ ap (λ (k : ℕ). manifest_payload (new_links o bs ts) (take k states) at id) c
       ∙ ap (λ (k : ℕ). manifest_payload (new_links o bs ts) (take (new_count o bs) states) k id) e

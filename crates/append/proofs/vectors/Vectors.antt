@@ -1,6 +1,6 @@
 -- The laws of specs/vectors/Vectors.antt.
 -- Assumes nothing.
-use Rattle.std.specs.Prelude.{ℕ, zero, suc, ◌+◌, ◌-◌, ◌*◌, ◌≤◌, ◌<◌, Bool, List, [], ◌∷◌, ◌++◌, length, take, drop, get_or, set}
+use Rattle.std.specs.Prelude.{ℕ, zero, suc, ◌+◌, ◌≤◌, ◌<◌, Bool, List, [], ◌∷◌, ◌++◌, length, take, drop, get_or, set}
 use Rattle.std.proofs.Math.Path.{◌≡◌, refl, ap}
 use Rattle.std.proofs.Common.{sym, ◌∙◌, add-one, arith, drop_of_length-le, length-set, length-take, take-suc, take-suc-set, get_or-take}
 use Rattle.std.proofs.Math.Bool.{true, false, cond}
@@ -8,60 +8,51 @@ use Rattle.std.proofs.lemmas.List.{map-append, length-map}
 use Rattle.std.proofs.Math.Dec.{eqb}
 use Rattle.std.proofs.Math.Seq.{drop-cons, take-length}
 use borrow.Author.Tests.{eq-eqb, ne_eqb, eqb-true, eqb-false}
-use Rattle.octets.specs.le.Le.{le_at}
 use Rattle.crc32c.specs.Crc.{crc_of}
 use Rattle.vecseg.specs.Payload.{vec_kind, check_of, first_of}
 use Rattle.vecseg.proofs.LineLaws.{first_none, first_bad}
 use Rattle.vec_read.specs.walk.Walk.{summed_of}
-use Rattle.vec_read.specs.declared.walk.Summed.{Summed}
-use Rattle.vec_read.specs.declared.walk.Summed.TheVariants.{Sound, Refused}
-use Rattle.batch.specs.Form.{Body, bodies_of}
+use Rattle.std.specs.Prelude.{Result, Ok, Err}
+use Rattle.batch.specs.Form.{Body}
 use Rattle.batch.specs.Lines.{no_body}
-use Rattle.batch.proofs.Lines.{BodyAt}
 use Rattle.appending.specs.Append.{vectors_bad}
-use Rattle.append.proofs.bodies.Laid.{body_part}
 use Rattle.append.specs.vectors.Vectors.{body_summed, body_sums}
 
 -- the number that refuses a body, 0 where none does
 unfoldable pub body_number : Body → ℕ
 body_number b = cond (eqb b.kind vec_kind) (check_of b.payload) 0
 
--- ---- the ways out of the check of body j: `from` and `len` are what the code has read
+-- ---- the ways out of the check of a body, by its type and its bytes as the code has them
 
-module _ (s : List ℕ) (j : ℕ) (b : BodyAt s j) (from len : ℕ) (f : from ≡ le_at 4 s (16 + 16 * j + 4)) (l : len ≡ le_at 4 s (16 + 16 * j + 8)) where
-  pub body_other : (get_or s (16 + 16 * j) 0 ≡ vec_kind → ⊥) → (sum : ℕ) → sum ≡ crc_of (take (from + len - from) (drop from s))
-      → Sound sum ≡ body_summed (get_or (bodies_of s) j no_body)
+module _ (b : Body) (kind : ℕ) (payload : List ℕ) (k : kind ≡ b.kind) (p : payload ≡ b.payload) where
+  pub body_other : (kind ≡ vec_kind → ⊥) → (sum : ℕ) → sum ≡ crc_of payload → Ok sum ≡ body_summed b
   unfolding body_summed
-  body_other n sum c =
-      rw (ne_eqb (get_or (bodies_of s) j no_body).kind vec_kind (λ e. n (sym b.kind_is ∙ e)))
-      (ap Sound (c ∙ ap crc_of (body_part s j b from len f l)))
+  body_other n sum c = rw (ne_eqb b.kind vec_kind (λ e. n (k ∙ e))) (ap Ok (c ∙ ap crc_of p))
 
-  pub body_checked : get_or s (16 + 16 * j) 0 ≡ vec_kind → (r : Summed) → r ≡ summed_of (take (from + len - from) (drop from s))
-      → r ≡ body_summed (get_or (bodies_of s) j no_body)
+  pub body_checked : kind ≡ vec_kind → (r : Result ℕ ℕ) → r ≡ summed_of payload → r ≡ body_summed b
   unfolding body_summed
-  body_checked e r c =
-      rw (eq-eqb (get_or (bodies_of s) j no_body).kind vec_kind (b.kind_is ∙ e)) (c ∙ ap summed_of (body_part s j b from len f l))
+  body_checked e r c = rw (eq-eqb b.kind vec_kind (sym k ∙ e)) (c ∙ ap summed_of p)
 
 -- ---- what the check of a body says of it
 
 module _ (b : Body) where
-  pub was_sound : (sum : ℕ) → body_summed b ≡ Sound sum → (body_number b ≡ 0) × (sum ≡ crc_of b.payload)
+  pub was_sound : (sum : ℕ) → body_summed b ≡ Ok sum → (body_number b ≡ 0) × (sum ≡ crc_of b.payload)
   unfolding body_summed body_number summed_of
   was_sound sum e = go (eqb b.kind vec_kind) (eqb (check_of b.payload) 0) refl e
     where
       go : (t u : Bool) → eqb (check_of b.payload) 0 ≡ u
-          → cond t (cond u (Sound (crc_of b.payload)) (Refused (check_of b.payload))) (Sound (crc_of b.payload)) ≡ Sound sum
+          → cond t (cond u (Ok (crc_of b.payload)) (Err (check_of b.payload))) (Ok (crc_of b.payload)) ≡ Ok sum
           → (cond t (check_of b.payload) 0 ≡ 0) × (sum ≡ crc_of b.payload)
       go false u q z = (refl, cc)
       go true true q z = (eqb-true (check_of b.payload) 0 q, cc)
       go true false q z = absurd (let w : ◌≡◌ {A = ℕ} 0 1 = cc in omega arith)
 
-  pub was_refused : (n : ℕ) → body_summed b ≡ Refused n → (n ≡ body_number b) × (n ≡ 0 → ⊥)
+  pub was_refused : (n : ℕ) → body_summed b ≡ Err n → (n ≡ body_number b) × (n ≡ 0 → ⊥)
   unfolding body_summed body_number summed_of
   was_refused n e = go (eqb b.kind vec_kind) (eqb (check_of b.payload) 0) refl e
     where
       go : (t u : Bool) → eqb (check_of b.payload) 0 ≡ u
-          → cond t (cond u (Sound (crc_of b.payload)) (Refused (check_of b.payload))) (Sound (crc_of b.payload)) ≡ Refused n
+          → cond t (cond u (Ok (crc_of b.payload)) (Err (check_of b.payload))) (Ok (crc_of b.payload)) ≡ Err n
           → (n ≡ cond t (check_of b.payload) 0) × (n ≡ 0 → ⊥)
       go false u q z = absurd (let w : ◌≡◌ {A = ℕ} 0 1 = cc in omega arith)
       go true true q z = absurd (let w : ◌≡◌ {A = ℕ} 0 1 = cc in omega arith)
@@ -111,7 +102,7 @@ module _ (bs : List Body) (sums₀ sums : List ℕ) (i : ℕ) (st : SumsAt bs su
   unfolding vectors_bad body_number
   turn = rw (add-one, drop-cons bs i no_body h)
 
-  pub sums_next : length bs ≤ length sums₀ → (sum : ℕ) → body_summed (get_or bs i no_body) ≡ Sound sum → SumsAt bs sums₀ (set sums i sum) (i + 1)
+  pub sums_next : length bs ≤ length sums₀ → (sum : ℕ) → body_summed (get_or bs i no_body) ≡ Ok sum → SumsAt bs sums₀ (set sums i sum) (i + 1)
   sums_next room sum e =
       let w = was_sound (get_or bs i no_body) sum e in
       let many = st.many in
@@ -127,7 +118,7 @@ module _ (bs : List Body) (sums₀ sums : List ℕ) (i : ℕ) (st : SumsAt bs su
             ∙ sym (sums_more bs i h);
       }
 
-  pub sums_stop : (r n : ℕ) → body_summed (get_or bs i no_body) ≡ Refused r → (r ≡ vectors_bad bs) × (r ≡ 0 → take n sums ≡ body_sums bs)
+  pub sums_stop : (r n : ℕ) → body_summed (get_or bs i no_body) ≡ Err r → (r ≡ vectors_bad bs) × (r ≡ 0 → take n sums ≡ body_sums bs)
   sums_stop r n e =
       let w = was_refused (get_or bs i no_body) r e in
       (w.0 ∙ sym (first_bad _ _ (λ z. w.1 (w.0 ∙ z))) ∙ sym turn ∙ st.same, λ z. absurd (w.1 z))

@@ -1,7 +1,8 @@
 -- The rest of an append, behind the tests of the file, the batch and the ids to retire: its tests and what it writes, as definitions, and its ways out.
 -- The laws stand in proofs/commit/CommitLaws.antt. Definitions only.
 -- Assumes nothing.
-use Rattle.std.specs.Prelude.{ℕ, ◌+◌, ◌-◌, ◌^◌, Bool, true, false, List, [], ◌∷◌, ◌++◌, ltb, length, take}
+use Rattle.std.specs.Prelude.{ℕ, ◌+◌, ◌-◌, ◌^◌, List, [], ◌∷◌, ◌++◌, ltb, length, take, Some, None}
+use Rattle.std.specs.Prelude.{Option as Maybe}
 use Rattle.std.proofs.Math.Option.{Option}
 use Rattle.octets.specs.Over.{over}
 use Rattle.answers.specs.limits.Limits.{max_file, max_entries}
@@ -14,9 +15,9 @@ use Rattle.batch.specs.Form.{Body}
 use Rattle.appending.specs.Append.{start_of, next_id, body_bytes, manifest_at, manifest_id, new_count, new_end, new_links, Check, checked}
 
 -- ids go on from the last one, or from 0
-unfoldable pub next_id_of : Bool → ℕ → ℕ
-next_id_of true last = 0
-next_id_of false last = last + 1
+unfoldable pub next_id_of : Maybe ℕ → ℕ
+next_id_of None = 0
+next_id_of (Some last) = last + 1
 
 -- 'entries above 1,024 12; ids 13; new end above the limit 1; above the buffer 9'
 unfoldable pub commit_checks : ℕ → Option (Found Link) → List Body → List Check

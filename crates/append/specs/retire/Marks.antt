@@ -25,3 +25,7 @@ retired_by (n ∷ ns) ss ids = cond (member n ids) 1 (get_or ss 0 0) ∷ retired
 unfoldable pub Rises : ℕ → List ℕ → Type 0
 Rises least [] = Unit {0}
 Rises least (n ∷ ns) = (least ≤ n) × Rises (n + 1) ns
+
+-- what refuses ids that may not be retired
+abbrev pub retire_number : Bool → ℕ
+retire_number held = cond held 0 11

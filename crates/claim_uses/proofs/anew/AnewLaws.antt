@@ -6,20 +6,20 @@ use Rattle.std.proofs.Common.{sym, ◌∙◌, arith, length-take}
 use Rattle.std.proofs.Math.Option.{some}
 use mathlib.Core.List.{List, [], ◌∷◌}
 use Rattle.octets.specs.le.Le.{Bytes}
-use Rattle.answers.specs.Answer.{Accepted}
+use Rattle.answers.specs.Answer.{Accepted, refusal_number, numbered}
 use Rattle.segment.specs.chain.Chain.{Found}
 use Rattle.segment.specs.Header.{Link}
 use Rattle.manifest.specs.Opening.{open_answer, opened_answer, opened_case}
 use Rattle.manifest.specs.declared.Opened as op
 use Rattle.manifest.specs.declared.Opened.TheVariants as ops
 use Rattle.appending.specs.declared.Appended.{Appended}
-use Rattle.appending.specs.declared.Appended.TheVariants as aps
 use Rattle.appending.specs.Append.{appended_answer, Appends, Holds}
 use Rattle.compacting.specs.Compact.{compact_case, compacted_answer, compact_buffer}
 use Rattle.compacting.specs.Promise.{Compaction, written_file}
 use Rattle.compacting.proofs.Theorem.{compacted}
 use Rattle.compacting.specs.declared.Compacted.{Compacted}
-use Rattle.compacting.specs.declared.Compacted.TheVariants as cps
+use Rattle.std.specs.Prelude.{Result, Ok, Err}
+use Rattle.answers.specs.declared.Refusal.{Refusal as RefusalName}
 use Rattle.claim.specs.Model.{Entry, new_manifest_entry, accepted_model, feed, feed_all}
 use Rattle.claim.specs.Demand3.{Call, is_accepted, file_after, Run, stop, call, fed_all, or_before, last_accepted}
 use Rattle.claim.proofs.Theorem.{demand3}
@@ -34,10 +34,10 @@ unfolding anew_model feed_all feed accepted_model new_manifest_entry
 model_manifest r batch ids ts = (_, refl)
 
 -- as the function has it: two answers, by cases
-module _ (f buf new₁ new₂ batch ids : List ℕ) (ts : ℕ) (t : ts < 2 ^ 64) (bytes : Bytes f) (c : Compacted) (a : Appended) (end₁ id₁ count₁ end₂ id₂ count₂ : ℕ)
-    (e₁ : c ≡ cps.At end₁ id₁ count₁) (e₂ : a ≡ aps.At end₂ id₂ count₂) (answers : c ≡ compact_case f buf) (leaves : new₁ ≡ compact_buffer f buf)
+module _ (f buf new₁ new₂ batch ids : List ℕ) (ts : ℕ) (t : ts < 2 ^ 64) (bytes : Bytes f) (c : Result Compacted ℕ) (a : Result Appended ℕ) (end₁ id₁ count₁ end₂ id₂ count₂ : ℕ)
+    (e₁ : c ≡ Ok (record { end = end₁; id = id₁; count = count₁ })) (e₂ : a ≡ Ok (record { end = end₂; id = id₂; count = count₂ })) (answers : c ≡ compact_case f buf) (leaves : new₁ ≡ compact_buffer f buf)
     (appends : Appends new₁ end₁ batch ids ts (appended_answer a) new₂) where
-  first : compact_case f buf ≡ cps.At end₁ id₁ count₁
+  first : compact_case f buf ≡ Ok (record { end = end₁; id = id₁; count = count₁ })
   first = sym answers ∙ e₁
 
   compaction : Compaction f buf end₁ id₁ count₁
@@ -57,7 +57,7 @@ module _ (f buf new₁ new₂ batch ids : List ℕ) (ts : ℕ) (t : ts < 2 ^ 64)
   one : Appends new₁ (length g) batch ids ts (Accepted (end₂ ∷ id₂ ∷ count₂ ∷ [])) new₂
   unfolding appended_answer
   one = subst (λ (n : ℕ). Appends new₁ n batch ids ts (Accepted (end₂ ∷ id₂ ∷ count₂ ∷ [])) new₂) (sym compaction.ends)
-      (subst (λ (x : Appended). Appends new₁ end₁ batch ids ts (appended_answer x) new₂) e₂ appends)
+      (subst (λ (x : Result Appended ℕ). Appends new₁ end₁ batch ids ts (appended_answer x) new₂) e₂ appends)
 
   abbrev calls : List Call
   calls = record { batch = batch; retiring = ids; timestamp = ts; answer = Accepted (end₂ ∷ id₂ ∷ count₂ ∷ []) } ∷ []
@@ -96,7 +96,7 @@ module _ (f buf new₁ new₂ batch ids : List ℕ) (ts : ℕ) (t : ts < 2 ^ 64)
   both_left =
       appends.leaves
       ∙ ap (λ (x : List ℕ). later_buffer x (Accepted (end₁ ∷ id₁ ∷ count₁ ∷ [])) batch ids ts) leaves
-      ∙ ap (λ (x : Compacted). later_buffer (compact_buffer f buf) (compacted_answer x) batch ids ts) (sym first)
+      ∙ ap (λ (x : Result Compacted ℕ). later_buffer (compact_buffer f buf) (compacted_answer x) batch ids ts) (sym first)
 
   both-answer : Accepted (end₂ ∷ id₂ ∷ count₂ ∷ []) ≡ anew_answer f buf batch ids
   unfolding anew_answer later_answer compacted_answer appended_answer
@@ -104,44 +104,44 @@ module _ (f buf new₁ new₂ batch ids : List ℕ) (ts : ℕ) (t : ts < 2 ^ 64)
       ap appended_answer (sym e₂)
       ∙ appends.answers
       ∙ ap (λ (x : List ℕ). later_answer x (Accepted (end₁ ∷ id₁ ∷ count₁ ∷ [])) batch ids) leaves
-      ∙ ap (λ (x : Compacted). later_answer (compact_buffer f buf) (compacted_answer x) batch ids) (sym first)
+      ∙ ap (λ (x : Result Compacted ℕ). later_answer (compact_buffer f buf) (compacted_answer x) batch ids) (sym first)
 
-  pub way_opened : (o : op.Opened) → o ≡ opened_case (take end₂ new₂) → AnewPromise f buf batch ids ts o × (new₂ ≡ anew_buffer f buf batch ids ts)
+  pub way_opened : (o : Result op.Opened RefusalName) → numbered o ≡ opened_case (take end₂ new₂) → AnewPromise f buf batch ids ts o × (new₂ ≡ anew_buffer f buf batch ids ts)
   unfolding AnewPromise opened_answer open_answer
   way_opened o e = (go o (ap opened_answer e ∙ opens m.0 m.1), both_left)
     where
       m : (m : Entry) × ((anew_model compaction.found batch ids ts).manifest ≡ some m)
       m = model_manifest compaction.found batch ids ts
 
-      go : (o : op.Opened) → opened_answer o ≡ Accepted (model m.0) → AnewPromise f buf batch ids ts o
-      go (ops.At offset end id count tried) q =
+      go : (o : Result op.Opened RefusalName) → opened_answer (numbered o) ≡ Accepted (model m.0) → AnewPromise f buf batch ids ts o
+      go (Ok (ops.At offset end id count tried)) q =
           let z = reported m.0 m.1 in
           let same : Accepted (end ∷ id ∷ count ∷ []) ≡ Accepted (end₂ ∷ id₂ ∷ count₂ ∷ []) = cc in
           (same ∙ both-answer, (compaction.found, (compaction.opens, (m.0, (m.1, (cc, (cc, (cc, cc))))))))
-      go (ops.NoManifest tried) q = absurd (let z : ◌≡◌ {A = ℕ} 0 1 = cc in omega arith)
-      go (ops.Refused n) q = absurd (let z : ◌≡◌ {A = ℕ} 0 1 = cc in omega arith)
+      go (Ok (ops.NoManifest tried)) q = absurd (let z : ◌≡◌ {A = ℕ} 0 1 = cc in omega arith)
+      go (Err n) q = absurd (let z : ◌≡◌ {A = ℕ} 0 1 = cc in omega arith)
 
 -- compaction refused
-pub way_first : (f buf new₁ batch ids : List ℕ) (ts : ℕ) (c : Compacted) (n : ℕ) → c ≡ cps.Refused n → c ≡ compact_case f buf → new₁ ≡ compact_buffer f buf
-    → AnewPromise f buf batch ids ts (ops.Refused n) × (new₁ ≡ anew_buffer f buf batch ids ts)
+pub way_first : (f buf new₁ batch ids : List ℕ) (ts : ℕ) (c : Result Compacted ℕ) (n : RefusalName) → c ≡ Err (refusal_number n) → c ≡ compact_case f buf → new₁ ≡ compact_buffer f buf
+    → AnewPromise f buf batch ids ts (Err n) × (new₁ ≡ anew_buffer f buf batch ids ts)
 unfolding AnewPromise anew_answer anew_buffer later_answer later_buffer compacted_answer
 way_first f buf new₁ batch ids ts c n e answers leaves =
-    let q : cps.Refused n ≡ compact_case f buf = sym e ∙ answers in (
-      ap (λ (x : Compacted). later_answer (compact_buffer f buf) (compacted_answer x) batch ids) q,
-      leaves ∙ ap (λ (x : Compacted). later_buffer (compact_buffer f buf) (compacted_answer x) batch ids ts) q,
+    let q : Err (refusal_number n) ≡ compact_case f buf = sym e ∙ answers in (
+      ap (λ (x : Result Compacted ℕ). later_answer (compact_buffer f buf) (compacted_answer x) batch ids) q,
+      leaves ∙ ap (λ (x : Result Compacted ℕ). later_buffer (compact_buffer f buf) (compacted_answer x) batch ids ts) q,
     )
 
 -- the append refused
-pub way_second : (f buf new₁ new₂ batch ids : List ℕ) (ts : ℕ) (c : Compacted) (a : Appended) (end₁ id₁ count₁ n : ℕ) → c ≡ cps.At end₁ id₁ count₁ → a ≡ aps.Refused n
+pub way_second : (f buf new₁ new₂ batch ids : List ℕ) (ts : ℕ) (c : Result Compacted ℕ) (a : Result Appended ℕ) (end₁ id₁ count₁ : ℕ) (n : RefusalName) → c ≡ Ok (record { end = end₁; id = id₁; count = count₁ }) → a ≡ Err (refusal_number n)
     → c ≡ compact_case f buf → new₁ ≡ compact_buffer f buf → Appends new₁ end₁ batch ids ts (appended_answer a) new₂
-    → AnewPromise f buf batch ids ts (ops.Refused n) × (new₂ ≡ anew_buffer f buf batch ids ts)
+    → AnewPromise f buf batch ids ts (Err n) × (new₂ ≡ anew_buffer f buf batch ids ts)
 unfolding AnewPromise anew_answer anew_buffer later_answer later_buffer compacted_answer appended_answer
 way_second f buf new₁ new₂ batch ids ts c a end₁ id₁ count₁ n e₁ e₂ answers leaves appends =
-    let p : cps.At end₁ id₁ count₁ ≡ compact_case f buf = sym e₁ ∙ answers in (
+    let p : Ok (record { end = end₁; id = id₁; count = count₁ }) ≡ compact_case f buf = sym e₁ ∙ answers in (
       sym (ap appended_answer e₂) ∙ appends.answers
           ∙ ap (λ (x : List ℕ). later_answer x (Accepted (end₁ ∷ id₁ ∷ count₁ ∷ [])) batch ids) leaves
-          ∙ ap (λ (x : Compacted). later_answer (compact_buffer f buf) (compacted_answer x) batch ids) p,
+          ∙ ap (λ (x : Result Compacted ℕ). later_answer (compact_buffer f buf) (compacted_answer x) batch ids) p,
       appends.leaves
           ∙ ap (λ (x : List ℕ). later_buffer x (Accepted (end₁ ∷ id₁ ∷ count₁ ∷ [])) batch ids ts) leaves
-          ∙ ap (λ (x : Compacted). later_buffer (compact_buffer f buf) (compacted_answer x) batch ids ts) p,
+          ∙ ap (λ (x : Result Compacted ℕ). later_buffer (compact_buffer f buf) (compacted_answer x) batch ids ts) p,
     )

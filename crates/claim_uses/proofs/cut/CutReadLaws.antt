@@ -1,15 +1,17 @@
 -- The ways out of an append that is cut short. What the cut file answers is not reasoned about here: it is cited from the claim about every list of
 -- appends.
 -- Assumes nothing.
-use Rattle.appending.specs.declared.Appended as answer
-use Rattle.appending.specs.declared.Appended.TheVariants as append
+use Rattle.std.specs.Prelude.{Result, Ok, Err}
+use Rattle.appending.specs.declared.Appended.{Appended}
+use Rattle.answers.specs.declared.Refusal.{Refusal as RefusalName}
+use Rattle.answers.specs.declared.Refusal.TheVariants.{NoRoom}
 use Rattle.claim_uses.specs.cut.CutRead.{CutReadPromise}
 use Rattle.std.specs.Prelude.{ℕ, ◌<◌, ◌≤◌, ◌+◌, ◌-◌, ◌^◌, ◌≡◌, length, get_or}
 use Rattle.std.proofs.Math.Path.{refl, sym, ap, subst}
 use Rattle.std.proofs.Common.{◌∙◌, arith, length-take-le}
 use mathlib.Core.List.{List, [], ◌∷◌}
 use Rattle.std.proofs.Math.ListN.{take}
-use Rattle.manifest.specs.declared.Opened.TheVariants.{Refused, At, NoManifest}
+use Rattle.manifest.specs.declared.Opened.TheVariants.{At, NoManifest}
 use Rattle.appending.specs.Append.{append_buffer, Appends, appended_answer, start_of, manifest_at, new_end, Holds}
 use Rattle.appending.proofs.Buffer.{AppendedBy, appended}
 use Rattle.append.proofs.AppendLaws.{way_room}
@@ -19,7 +21,7 @@ use Rattle.opening.proofs.Indexed.{opened_refused, opened_none, opened_at, opene
 use Rattle.claim.specs.Demand3.{opens, Call, file_after, Run, stop, call, Starts, empty, last_accepted, Alike, LastAppend, cut_at}
 use Rattle.std.proofs.Math.Option.{Option, none, some}
 use Rattle.std.proofs.Math.Seq.{take-take}
-use Rattle.answers.specs.Answer.{Accepted}
+use Rattle.answers.specs.Answer.{Accepted, refusal_number, numbered}
 use Rattle.vecseg.specs.declared.Vector.{Vector}
 use Rattle.reading.specs.Answers.{vector_case, vector_after}
 use Rattle.batch.specs.Form.{bodies_of}
@@ -31,11 +33,11 @@ use Rattle.claim.proofs.Theorem.{demand3}
 
 module _ (old : List ℕ) (n : ℕ) (batch ids : List ℕ) (ts k id : ℕ) (out : List ℕ) where
   -- the buffer is too short for the file
-  pub says_short : length old < n → CutReadPromise old n batch ids k id out out (NotAppended 9) × (old ≡ append_buffer old n batch ids ts)
+  pub says_short : length old < n → CutReadPromise old n batch ids k id out out (NotAppended NoRoom) × (old ≡ append_buffer old n batch ids ts)
   unfolding CutReadPromise appended_answer
   says_short h = let w = way_room old n batch ids ts h in ((w.answers, refl), w.leaves)
 
-  pub says_refused : (new : List ℕ) (r : answer.Appended) (e : ℕ) → r ≡ append.Refused e → Appends old n batch ids ts (appended_answer r) new
+  pub says_refused : (new : List ℕ) (r : Result Appended ℕ) (e : RefusalName) → r ≡ Err (refusal_number e) → Appends old n batch ids ts (appended_answer r) new
       → CutReadPromise old n batch ids k id out out (NotAppended e) × (new ≡ append_buffer old n batch ids ts)
   unfolding CutReadPromise appended_answer
   says_refused new r e is a = ((sym (ap appended_answer is) ∙ a.answers, refl), a.leaves)
@@ -43,21 +45,21 @@ module _ (old : List ℕ) (n : ℕ) (batch ids : List ℕ) (ts k id : ℕ) (out 
 -- ---- where an append starts, by what opening answers
 
 module _ (f : List ℕ) where
-  pub start_refused : (n : ℕ) → opened_case f ≡ Refused n → length f ≤ 16777216 → 0 ≡ start_of (opened f)
+  pub start_refused : (n : ℕ) → opened_case f ≡ Err n → length f ≤ 16777216 → 0 ≡ start_of (opened f)
   start_refused n e h = absurd (omega (arith, (opened_refused f n e).1))
 
-  pub start_none : (t : ℕ) → opened_case f ≡ NoManifest t → 0 ≡ start_of (opened f)
+  pub start_none : (t : ℕ) → opened_case f ≡ Ok (NoManifest t) → 0 ≡ start_of (opened f)
   unfolding start_of
   start_none t e = sym (ap start_of (opened_none f t e).1)
 
-  pub start_at : (offset end id count t : ℕ) → opened_case f ≡ At offset end id count t → end ≡ start_of (opened f)
+  pub start_at : (offset end id count t : ℕ) → opened_case f ≡ Ok (At offset end id count t) → end ≡ start_of (opened f)
   unfolding start_of
   start_at offset end id count t e = sym (ap start_of (opened_at f offset end id count t e).opens ∙ (opened_end f offset end id count t e).0)
 
 -- ---- an accepted append, cut
 
 module _ (old : List ℕ) (n : ℕ) (batch ids : List ℕ) (ts : ℕ) (end i count : ℕ) (new : List ℕ) (inside : n ≤ length old)
-    (r : answer.Appended) (is : r ≡ append.At end i count) (a : Appends old n batch ids ts (appended_answer r) new) where
+    (r : Result Appended ℕ) (is : r ≡ Ok (record { end = end; id = i; count = count })) (a : Appends old n batch ids ts (appended_answer r) new) where
   file-length : length (take n old) ≡ n
   file-length = length-take-le n old inside
 
@@ -66,7 +68,7 @@ module _ (old : List ℕ) (n : ℕ) (batch ids : List ℕ) (ts : ℕ) (end i cou
 
   accepts : Appends old n batch ids ts (Accepted (end ∷ i ∷ count ∷ [])) new
   unfolding appended_answer
-  accepts = subst (λ (x : answer.Appended). Appends old n batch ids ts (appended_answer x) new) is a
+  accepts = subst (λ (x : Result Appended ℕ). Appends old n batch ids ts (appended_answer x) new) is a
 
   appends : Appends old (length (take n old)) batch ids ts (Accepted (end ∷ i ∷ count ∷ [])) new
   appends = subst (λ (m : ℕ). Appends old m batch ids ts (Accepted (end ∷ i ∷ count ∷ [])) new) (sym file-length) accepts
@@ -154,7 +156,7 @@ module _ (old : List ℕ) (n : ℕ) (batch ids : List ℕ) (ts : ℕ) (end i cou
         subst (λ (x : List ℕ). Alike x (take n old)) cut-is ((demand3 (begins (opened (take n old)) refl).1 (run fits)).cut (last fits) k h).alike
 
     -- so what is read there is what the file before the append has
-    pub says_read : (id : ℕ) (out exit : List ℕ) (v : Vector) → v ≡ vector_case (take (start + k) new) id out → exit ≡ vector_after (take (start + k) new) id out
+    pub says_read : (id : ℕ) (out exit : List ℕ) (v : Result Vector RefusalName) → numbered v ≡ vector_case (take (start + k) new) id out → exit ≡ vector_after (take (start + k) new) id out
         → CutReadPromise old n batch ids k id out exit (Read v) × (new ≡ append_buffer old n batch ids ts)
     unfolding CutReadPromise
     says_read id out exit v e b =

@@ -6,20 +6,20 @@ use Rattle.std.proofs.Common.{sym, ◌∙◌, arith, length-take}
 use Rattle.std.proofs.Math.Option.{some}
 use mathlib.Core.List.{List, [], ◌∷◌}
 use Rattle.std.proofs.Math.ListN.{length}
-use Rattle.answers.specs.Answer.{Answer, Accepted, Refusal}
+use Rattle.answers.specs.Answer.{Answer, Accepted, Refusal, refusal_number}
 use Rattle.manifest.specs.Opening.{opened, open_answer, opened_answer, opened_case}
 use Rattle.manifest.specs.declared.Opened as op
 use Rattle.manifest.specs.declared.Opened.TheVariants as ops
 use Rattle.batch.specs.Form.{bodies_of}
 use Rattle.appending.specs.declared.Appended.{Appended}
-use Rattle.appending.specs.declared.Appended.TheVariants as aps
+use Rattle.std.specs.Prelude.{Result, Ok, Err, Some, None}
+use Rattle.answers.specs.declared.Refusal.{Refusal as RefusalName}
 use Rattle.appending.specs.Append.{appended_answer, new_end, append_answer, append_buffer, Appends, Holds}
 use Rattle.appending.proofs.Buffer as buffer
 use Rattle.appending.proofs.Buffer.{with_length, file_is}
 use Rattle.claim.specs.Model.{Entry, new_manifest_entry, accepted_model, feed, feed_all}
 use Rattle.claim.specs.Demand3.{Call, is_accepted, file_after, Run, stop, call, fed_all, empty, or_before, last_accepted}
 use Rattle.claim.proofs.Theorem.{demand3}
-use Rattle.claim_uses.specs.declared.twice.Twice.TheVariants as tws
 use Rattle.claim_uses.specs.twice.Twice.{twice_model, later_answer, later_buffer, twice_answer, twice_buffer, TwicePromise}
 
 -- the file after an accepted append is as long as the end answered
@@ -79,15 +79,15 @@ module _ (old new₁ new₂ first second ids : List ℕ) (ts : ℕ) (t : ts < 2 
     reported m e = (demand3 empty run).claim.last m e (Accepted vs₂) refl
 
   -- as the function has it: two answers, by cases
-  module _ (r₁ r₂ : Appended) (end₁ id₁ count₁ end₂ id₂ count₂ : ℕ) (e₁ : r₁ ≡ aps.At end₁ id₁ count₁) (e₂ : r₂ ≡ aps.At end₂ id₂ count₂)
+  module _ (r₁ r₂ : Result Appended ℕ) (end₁ id₁ count₁ end₂ id₂ count₂ : ℕ) (e₁ : r₁ ≡ Ok (record { end = end₁; id = id₁; count = count₁ })) (e₂ : r₂ ≡ Ok (record { end = end₂; id = id₂; count = count₂ }))
       (a₁ : Appends old 0 first [] ts (appended_answer r₁) new₁) (a₂ : Appends new₁ end₁ second ids ts (appended_answer r₂) new₂) where
     one : Appends old 0 first [] ts (Accepted (end₁ ∷ id₁ ∷ count₁ ∷ [])) new₁
     unfolding appended_answer
-    one = subst (λ (r : Appended). Appends old 0 first [] ts (appended_answer r) new₁) e₁ a₁
+    one = subst (λ (r : Result Appended ℕ). Appends old 0 first [] ts (appended_answer r) new₁) e₁ a₁
 
     two : Appends new₁ end₁ second ids ts (Accepted (end₂ ∷ id₂ ∷ count₂ ∷ [])) new₂
     unfolding appended_answer
-    two = subst (λ (r : Appended). Appends new₁ end₁ second ids ts (appended_answer r) new₂) e₂ a₂
+    two = subst (λ (r : Result Appended ℕ). Appends new₁ end₁ second ids ts (appended_answer r) new₂) e₂ a₂
 
     -- the end answered lies in the buffer
     pub end_inside : end₂ ≤ length new₂
@@ -110,7 +110,7 @@ module _ (old new₁ new₂ first second ids : List ℕ) (ts : ℕ) (t : ts < 2 
         ∙ ap (λ (x : Answer). later_answer (append_buffer old 0 first [] ts) x second ids) one.answers
 
     -- opening is answered by the claim
-    answered : (o : op.Opened) → opened_case (take end₂ new₂) ≡ o → (m : Entry) → (twice_model first second ids ts).manifest ≡ some m
+    answered : (o : Result op.Opened ℕ) → opened_case (take end₂ new₂) ≡ o → (m : Entry) → (twice_model first second ids ts).manifest ≡ some m
         → opened_answer o
         ≡ Accepted
         (m.link.offset
@@ -122,8 +122,8 @@ module _ (old new₁ new₂ first second ids : List ℕ) (ts : ℕ) (t : ts < 2 
     unfolding open_answer
     answered o e m h = ap opened_answer (sym e) ∙ opens (end₁ ∷ id₁ ∷ count₁ ∷ []) (end₂ ∷ id₂ ∷ count₂ ∷ []) one two m h
 
-    pub way_at : (offset end id count tried : ℕ) → opened_case (take end₂ new₂) ≡ ops.At offset end id count tried
-        → TwicePromise old first second ids ts (tws.At offset end id count) × (new₂ ≡ twice_buffer old first second ids ts)
+    pub way_at : (offset end id count tried : ℕ) → opened_case (take end₂ new₂) ≡ Ok (ops.At offset end id count tried)
+        → TwicePromise old first second ids ts (Ok (Some (record { offset = offset; end = end; id = id; count = count }))) × (new₂ ≡ twice_buffer old first second ids ts)
     unfolding TwicePromise opened_answer
     way_at offset end id count tried e =
         let m = model_manifest first second ids ts in
@@ -134,41 +134,41 @@ module _ (old new₁ new₂ first second ids : List ℕ) (ts : ℕ) (t : ts < 2 
         ∷ m.0.link.id
         ∷ length (twice_model first second ids ts).entries
         ∷ (length (take end₂ new₂) / 64 - m.0.link.offset / 64)
-        ∷ []) = answered (ops.At offset end id count tried) e m.0 m.1 in
+        ∷ []) = answered (Ok (ops.At offset end id count tried)) e m.0 m.1 in
         let z = reported (end₁ ∷ id₁ ∷ count₁ ∷ []) (end₂ ∷ id₂ ∷ count₂ ∷ []) one two m.0 m.1 in
         let same : Accepted (end ∷ id ∷ count ∷ []) ≡ Accepted (end₂ ∷ id₂ ∷ count₂ ∷ []) = cc in
         ((same ∙ both-answer, (m.0, (m.1, (cc, (cc, (cc, cc)))))), both_left)
 
-    pub way_none : (tried : ℕ) → opened_case (take end₂ new₂) ≡ ops.NoManifest tried → TwicePromise old first second ids ts tws.Lost × (new₂ ≡ twice_buffer old first second ids ts)
+    pub way_none : (tried : ℕ) → opened_case (take end₂ new₂) ≡ Ok (ops.NoManifest tried) → TwicePromise old first second ids ts (Ok None) × (new₂ ≡ twice_buffer old first second ids ts)
     unfolding TwicePromise opened_answer
     way_none tried e =
         let m = model_manifest first second ids ts in
-        let q = answered (ops.NoManifest tried) e m.0 m.1 in
+        let q = answered (Ok (ops.NoManifest tried)) e m.0 m.1 in
         absurd (let z : ◌≡◌ {A = ℕ} 0 1 = cc in omega arith)
 
-    pub way_long : (n : ℕ) → opened_case (take end₂ new₂) ≡ ops.Refused n → TwicePromise old first second ids ts tws.Lost × (new₂ ≡ twice_buffer old first second ids ts)
+    pub way_long : (n : ℕ) → opened_case (take end₂ new₂) ≡ Err n → TwicePromise old first second ids ts (Ok None) × (new₂ ≡ twice_buffer old first second ids ts)
     unfolding TwicePromise opened_answer
     way_long n e =
         let m = model_manifest first second ids ts in
-        let q = answered (ops.Refused n) e m.0 m.1 in
+        let q = answered (Err n) e m.0 m.1 in
         absurd (let z : ◌≡◌ {A = ℕ} 0 1 = cc in omega arith)
 
 -- the first append refused
-pub way_first : (old new₁ first second ids : List ℕ) (ts : ℕ) (r₁ : Appended) (n : ℕ) → r₁ ≡ aps.Refused n → Appends old 0 first [] ts (appended_answer r₁) new₁
-    → TwicePromise old first second ids ts (tws.Refused n) × (new₁ ≡ twice_buffer old first second ids ts)
+pub way_first : (old new₁ first second ids : List ℕ) (ts : ℕ) (r₁ : Result Appended ℕ) (n : RefusalName) → r₁ ≡ Err (refusal_number n) → Appends old 0 first [] ts (appended_answer r₁) new₁
+    → TwicePromise old first second ids ts (Err n) × (new₁ ≡ twice_buffer old first second ids ts)
 unfolding TwicePromise twice_answer twice_buffer later_answer later_buffer appended_answer
 way_first old new₁ first second ids ts r₁ n e a =
-    let q : Refusal n [] ≡ append_answer old 0 first [] = sym (ap appended_answer e) ∙ a.answers in
+    let q : Refusal (refusal_number n) [] ≡ append_answer old 0 first [] = sym (ap appended_answer e) ∙ a.answers in
     (ap (λ (x : Answer). later_answer (append_buffer old 0 first [] ts) x second ids) q, a.leaves ∙ ap (λ (x : Answer). later_buffer (append_buffer old 0 first [] ts) x second ids ts) q)
 
 -- the second append refused
-pub way_second : (old new₁ new₂ first second ids : List ℕ) (ts : ℕ) (r₁ r₂ : Appended) (end₁ id₁ count₁ n : ℕ) → r₁ ≡ aps.At end₁ id₁ count₁ → r₂ ≡ aps.Refused n
+pub way_second : (old new₁ new₂ first second ids : List ℕ) (ts : ℕ) (r₁ r₂ : Result Appended ℕ) (end₁ id₁ count₁ : ℕ) (n : RefusalName) → r₁ ≡ Ok (record { end = end₁; id = id₁; count = count₁ }) → r₂ ≡ Err (refusal_number n)
     → Appends old 0 first [] ts (appended_answer r₁) new₁ → Appends new₁ end₁ second ids ts (appended_answer r₂) new₂
-    → TwicePromise old first second ids ts (tws.Refused n) × (new₂ ≡ twice_buffer old first second ids ts)
+    → TwicePromise old first second ids ts (Err n) × (new₂ ≡ twice_buffer old first second ids ts)
 unfolding TwicePromise twice_answer twice_buffer later_answer later_buffer appended_answer
 way_second old new₁ new₂ first second ids ts r₁ r₂ end₁ id₁ count₁ n e₁ e₂ a₁ a₂ =
     let p : Accepted (end₁ ∷ id₁ ∷ count₁ ∷ []) ≡ append_answer old 0 first [] = sym (ap appended_answer e₁) ∙ a₁.answers in
-    let q : Refusal n [] ≡ append_answer new₁ end₁ second ids = sym (ap appended_answer e₂) ∙ a₂.answers in (
+    let q : Refusal (refusal_number n) [] ≡ append_answer new₁ end₁ second ids = sym (ap appended_answer e₂) ∙ a₂.answers in (
       q
           ∙ ap (λ (x : List ℕ). later_answer x (Accepted (end₁ ∷ id₁ ∷ count₁ ∷ [])) second ids) a₁.leaves
           ∙ ap (λ (x : Answer). later_answer (append_buffer old 0 first [] ts) x second ids) p,

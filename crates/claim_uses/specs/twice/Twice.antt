@@ -2,11 +2,13 @@
 -- Assumes nothing.
 use Rattle.std.specs.Prelude.{ℕ, ◌≡◌, true, List, [], ◌∷◌, length, get_or}
 use Rattle.std.proofs.Math.Option.{some}
-use Rattle.answers.specs.Answer.{Answer, Accepted, Refusal}
+use Rattle.answers.specs.Answer.{Answer, Accepted, Refusal, refusal_number}
 use Rattle.appending.specs.Append.{append_answer, append_buffer}
 use Rattle.claim.specs.Model.{Entry, Model, empty_model, feed_all}
 use Rattle.claim_uses.specs.declared.twice.Twice.{Twice}
-use Rattle.claim_uses.specs.declared.twice.Twice.TheVariants.{At, Lost, Refused}
+use Rattle.answers.specs.declared.Refusal.{Refusal as RefusalName}
+use Rattle.std.specs.Prelude.{Result, Ok, Err, Some, None}
+use Rattle.std.specs.Prelude.{Option as Maybe}
 
 -- the model after the two calls, both accepted
 unfoldable pub twice_model : List ℕ → List ℕ → List ℕ → ℕ → Model
@@ -32,11 +34,11 @@ twice_buffer old first second ids ts = later_buffer (append_buffer old 0 first [
 
 -- what is promised: where both appends are accepted, opening answers what the second reported, and that is the model's manifest and end and the number
 -- of its entries; it is never without a manifest; a refusal is an append's
-unfoldable pub TwicePromise : List ℕ → List ℕ → List ℕ → List ℕ → ℕ → Twice → Type 0
-TwicePromise old first second ids ts (At offset end id count) =
-    (Accepted (end ∷ id ∷ count ∷ []) ≡ twice_answer old first second ids ts)
+unfoldable pub TwicePromise : List ℕ → List ℕ → List ℕ → List ℕ → ℕ → Result (Maybe Twice) RefusalName → Type 0
+TwicePromise old first second ids ts (Ok (Some a)) =
+    (Accepted (a.end ∷ a.id ∷ a.count ∷ []) ≡ twice_answer old first second ids ts)
     × ((m : Entry)
     × (((twice_model first second ids ts).manifest ≡ some m)
-    × ((offset ≡ m.link.offset) × ((end ≡ (twice_model first second ids ts).end) × ((id ≡ m.link.id) × (count ≡ length (twice_model first second ids ts).entries))))))
-TwicePromise old first second ids ts Lost = ⊥
-TwicePromise old first second ids ts (Refused n) = Refusal n [] ≡ twice_answer old first second ids ts
+    × ((a.offset ≡ m.link.offset) × ((a.end ≡ (twice_model first second ids ts).end) × ((a.id ≡ m.link.id) × (a.count ≡ length (twice_model first second ids ts).entries))))))
+TwicePromise old first second ids ts (Ok None) = ⊥
+TwicePromise old first second ids ts (Err e) = Refusal (refusal_number e) [] ≡ twice_answer old first second ids ts

@@ -19,11 +19,13 @@ use Rattle.segment.specs.Chained.{chain, offsets_of}
 use Rattle.segment.proofs.index.Offsets.{offsets_append}
 use Rattle.manifest.specs.Payload.{manifest_kind, state_place}
 use Rattle.manifest.specs.Opening.{opened}
-use Rattle.opening.specs.Indexed.{ManifestAt}
-use Rattle.opening.proofs.Indexed.{EntryAt}
+use Rattle.opening.specs.Indexed.{ManifestAt, Indexed}
+use Rattle.opening.proofs.Indexed.{EntryAt, entry_at}
+use Rattle.octets.specs.le.Le.{Bytes}
+use Rattle.segment.specs.index.Offsets.{most}
 use Rattle.reading.specs.Live.{live_of}
 use Rattle.compacting.specs.Compact.{without_manifests, copied, damaged}
-use Rattle.compact.specs.declared.select.Selected.TheVariants.{Of, Damaged}
+use Rattle.std.specs.Prelude.{Ok, Err}
 use Rattle.compact.specs.select.Selected.{copied_of, selected_of}
 use Rattle.compact.proofs.select.Passed.{copied_of_found, l, damaged_append, damaged_stays, passed, passed_all, behind, passed_split, passed_retired, passed_manifest, passed_here, places}
 
@@ -65,7 +67,7 @@ module _ (f : List ℕ) (offset count : ℕ) (m : ManifestAt f offset count) whe
     st = w m.found m.opens
 
     -- every entry is passed
-    pub select_last : count ≤ i → (Of n end ≡ selected_of (copied_of (opened f)))
+    pub select_last : count ≤ i → (Ok (record { count = n; end = end }) ≡ selected_of (copied_of (opened f)))
         × (damaged (copied_of (opened f)) ≡ 0 → take (length (copied_of (opened f))) os ≡ offsets_of (copied_of (opened f)))
     unfolding selected_of
     select_last h =
@@ -140,7 +142,7 @@ module _ (f : List ℕ) (offset count : ℕ) (m : ManifestAt f offset count) whe
             whole_is : whole (l r i inside) ≡ whole_at f (get_or os i 0) len
             whole_is = ap whole a.link_is ∙ a.numbered.whole_is ∙ ap (whole_at f (get_or os i 0)) (a.numbered.length_is ∙ sym len_is)
 
-            pub select_damaged : whole_at f (get_or os i 0) len ≡ false → (Damaged ≡ selected_of (copied_of (opened f)))
+            pub select_damaged : whole_at f (get_or os i 0) len ≡ false → (Err 4 ≡ selected_of (copied_of (opened f)))
                 × (damaged (copied_of (opened f)) ≡ 0 → take (length (copied_of (opened f))) os ≡ offsets_of (copied_of (opened f)))
             unfolding selected_of damaged
             select_damaged t =
@@ -171,3 +173,9 @@ module _ (f : List ℕ) (offset count : ℕ) (m : ManifestAt f offset count) whe
                   end_is = ap (sizes reader) picked ∙ sizes_append reader (passed r i) (l r i inside ∷ []) ∙ omega (arith, st.end_is, s);
                   low = omega (arith, st.low, places r i inside, s);
                 })
+
+-- the entry that is looked at, whose offset stands in the list yet
+pub selecting_entry : (f : List ℕ) (offset count : ℕ) (m : ManifestAt f offset count) (os₀ os : List ℕ) → Bytes f → Indexed f os₀ → most ≤ length os₀
+    → (i n end : ℕ) → Selecting f os₀ os i n end → i < count → EntryAt f os m.found offset i
+selecting_entry f offset count m os₀ os t s room i n end w h =
+    select_entry f offset count m os₀ os i n end w h (entry_at f os₀ offset count t s room m i h)

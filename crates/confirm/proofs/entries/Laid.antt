@@ -1,9 +1,9 @@
 -- What the steps of writing a manifest's payload leave in the buffer: a part of the file, an entry, the entries, the root, the payload.
 -- Assumes nothing.
-use Prim.Native.Nat.{ℕ, ◌+◌, ◌-◌, ◌*◌, ◌≤◌, ◌<◌}
+use Prim.Native.Nat.{ℕ, suc, ◌+◌, ◌-◌, ◌*◌, ◌≤◌, ◌<◌}
 use Rattle.std.specs.Prelude.{◌≡◌, take, drop, get_or, set}
 use Rattle.std.proofs.Math.Path.{refl, ap}
-use Rattle.std.proofs.Common.{sym, ap₂, ◌∙◌, add-one, arith, length-append, length-drop, length-take-le, take_all, take-add, drop-drop, get_or-take}
+use Rattle.std.proofs.Common.{sym, ap₂, ◌∙◌, add-one, arith, length-append, length-drop, length-take-le, take_all, take-add, drop-cons, drop-drop, get_or-take}
 use mathlib.Core.List.{List, [], ◌∷◌, ◌++◌, append_assoc}
 use Rattle.std.proofs.Math.Nat.{zero-add}
 use Rattle.std.proofs.Math.ListN.{length, replicate}
@@ -30,6 +30,16 @@ copied buf ys f at from n p h k =
     let e : from + n - from ≡ n = omega arith in
     let l : length (take n (drop from f)) ≡ n = length-take-le n (drop from f) (omega (arith, length-drop from f)) in
     back buf at ys (take n (drop from f)) (rw e at p) (omega arith)
+
+-- a part of a buffer that came back as a part of the file
+pub copied_over : (buf ys f : List ℕ) (at from n : ℕ) → ys ≡ take (from + n - from) (drop from f) → from + n ≤ length f
+    → put_mid at (at + n - at) buf ys ≡ over buf at (take n (drop from f))
+unfolding over
+copied_over buf ys f at from n p k =
+    let e : from + n - from ≡ n = omega arith in
+    let g : at + n - at ≡ n = omega arith in
+    let l : length (take n (drop from f)) ≡ n = length-take-le n (drop from f) (omega (arith, length-drop from f)) in
+    rw (p, e, g, l, drop-drop)
 
 -- two words of the file, read as numbers and written
 pub words_copied : (buf b₁ b₂ f : List ℕ) (at from low high : ℕ) → Bytes f → at + 16 ≤ length buf → from + 16 ≤ length f → low ≡ le_at 8 f from
@@ -104,6 +114,13 @@ entries_next buf₀ buf buf' f os ss i st h t room p q =
 
 pub entries_last : (buf₀ buf f os ss : List ℕ) (i : ℕ) → EntriesPut buf₀ buf f os ss i → length os ≤ i → buf ≡ over buf₀ 8 (entries_at f os ss)
 entries_last buf₀ buf f os ss i st h = rw (take_all i os h) at st.laid
+
+-- what is left of a list behind its first i numbers begins with the next one
+pub next_left : (xs left rest : List ℕ) (i x : ℕ) → left ≡ drop i xs → left ≡ x ∷ rest → (i < length xs) × ((x ≡ get_or xs i 0) × (rest ≡ drop (i + 1) xs))
+next_left xs left rest i x p q =
+    let h : i < length xs = omega (arith, ap length p, ap length q, length-drop i xs) in
+    let e : x ∷ rest ≡ get_or xs i 0 ∷ drop (suc i) xs = sym q ∙ p ∙ drop-cons xs i 0 h in
+    (h, (cc, rw add-one cc))
 
 -- ---- the root's fields, one by one, and its zeros
 

@@ -1,8 +1,8 @@
 -- The steps of the test: the states read off a payload, each state held, and the ways out.
 -- Assumes nothing.
-use Rattle.std.specs.Prelude.{ℕ, suc, ◌+◌, ◌-◌, ◌*◌, ◌≤◌, ◌<◌, ◌≡◌, refl, true, false, ◌&&◌, List, take, drop, get_or, set}
+use Rattle.std.specs.Prelude.{ℕ, suc, ◌+◌, ◌-◌, ◌*◌, ◌≤◌, ◌<◌, ◌≡◌, refl, true, false, ◌&&◌, List, [], ◌++◌, take, drop, get_or, set}
 use Rattle.std.proofs.Math.Path.{sym, ap}
-use Rattle.std.proofs.Common.{◌∙◌, add-one, arith, length-set, length-drop, drop_of_length-le, get_or-drop, length-take-le, ne_eqb, le-leb}
+use Rattle.std.proofs.Common.{◌∙◌, add-one, append-nil, zero-add, arith, length-set, length-drop, drop_of_length-le, get_or-drop, length-take-le, ne_eqb, le-leb}
 use Rattle.std.proofs.Math.Bool.{Bool, and-false, and-true}
 use Rattle.std.proofs.Math.ListN.{length}
 use Rattle.std.proofs.Math.Seq.{drop-cons}
@@ -58,6 +58,15 @@ read_last s₀ s payload n i st h =
     let at_most = st.at_most in
     let e : i ≡ n = omega arith in
     rw e at st.laid
+
+-- the states laid over the front of a list are laid over the list
+pub read_front : (s₀ s payload : List ℕ) (n : ℕ) → n ≤ length s₀ → s ≡ over (take n s₀) 0 (states_in n (drop 8 payload))
+    → s ++ drop n s₀ ≡ over s₀ 0 (states_in n (drop 8 payload))
+unfolding over
+read_front s₀ s payload n h e =
+    let k : length (states_in n (drop 8 payload)) ≡ n = length_states_by entry_size n (drop 8 payload) in
+    let z : drop n (take n s₀) ≡ [] = drop_of_length-le (take n s₀) {i = n} (omega (arith, length-take-le n s₀ h)) in
+    rw (e, zero-add, k, z, append-nil)
 
 -- ---- each state held
 
@@ -166,6 +175,17 @@ module _ (f os : List ℕ) (at len : ℕ) where
       q
       ∙ ap (λ (x : List ℕ). same_bytes x (take len b)) (part_is f at len)
       ∙ ap (same_bytes (payload_in f at len)) (payload_front buf b f os ss at len id t e p ∙ ap (λ (x : List ℕ). payload_at f os x at id) s)
+
+  -- the same by the states as they were read
+  pub held_read : (s₀ s : List ℕ) (r : Bool) → s ≡ over s₀ 0 (states_in (length os) (drop 8 (take (at + 64 + len - (at + 64)) (drop (at + 64) f))))
+      → r ≡ states_held_at f os (take (length os) s) → states_held_at f os (states_read_at f os at len) ≡ r
+  held_read s₀ s r p h = ap (states_held_at f os) (sym (states_are s₀ s p)) ∙ sym h
+
+  pub compared_read : (s₀ s buf b : List ℕ) (id : ℕ) (r : Bool) → Inside f os → len ≡ payload_length (length os)
+      → s ≡ over s₀ 0 (states_in (length os) (drop 8 (take (at + 64 + len - (at + 64)) (drop (at + 64) f))))
+      → b ≡ over buf 0 (payload_at f os (take (length os) s) at id) → r ≡ same_bytes (take (at + 64 + len - (at + 64)) (drop (at + 64) f)) (take len b)
+      → same_bytes (payload_in f at len) (payload_at f os (states_read_at f os at len) at id) ≡ r
+  compared_read s₀ s buf b id r t e p q h = sym (compared buf b (take (length os) s) id r t e (states_are s₀ s p) q h)
 
   -- it ends with a root where it is the one that is written anew, and the hash is of its checksum
   pub part_rooted : (id : ℕ) → same_bytes (payload_in f at len) (payload_at f os (states_read_at f os at len) at id) ≡ true

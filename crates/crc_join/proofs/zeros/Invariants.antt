@@ -1,12 +1,10 @@
--- `crc_join::zeros` meets its contract. The invariant: the zero bytes that are left make of the register what all of them make of the first.
--- Assumes nothing.
+-- The zero bytes that are left make of the register what all of them make of the first.
 use Prim.Native.Nat.{◌*◌, ◌-◌, ◌^◌, ◌<◌}
 use mathlib.Core.Path.{◌≡◌}
 use Rattle.crc32c.specs.Crc.{poly, bits}
 use Rattle.crc_join.proofs.zeros.Given as goal
 
-abbrev pub invariant-loop-m : goal.invariant-loop-m
-invariant-loop-m l = (l.m < 2 ^ (32 - l.j)) × ((l.x < 2 ^ 32) × (bits poly (8 * (l.m * 2 ^ l.j)) l.x ≡ bits poly (8 * l.n) l.c))
-
-abbrev pub decreases-loop-m : goal.decreases-loop-m
-decreases-loop-m l = l.m
+abbrev pub invariant-loop-power : goal.invariant-loop-power
+invariant-loop-power l =
+    (l.m < 2 ^ (32 - l.power-index))
+    × ((l.x < 2 ^ 32) × (bits poly (8 * (l.m * 2 ^ l.power-index)) l.x ≡ bits poly (8 * l.n) l.c))

@@ -1,6 +1,7 @@
 -- What an id map is refused for: where the loop over the ids stands, and one law for each way out.
 -- Assumes nothing.
-use Rattle.std.specs.Prelude.{ℕ, suc, ◌+◌, ◌≤◌, ◌<◌, ◌≡◌, refl, true, cond, ◌&&◌, List, eqb, leb, ltb, length, get_or, drop}
+use Rattle.std.specs.Prelude.{ℕ, suc, ◌+◌, ◌≤◌, ◌<◌, ◌≡◌, refl, true, cond, ◌&&◌, List, eqb, leb, ltb, length, get_or, drop, Some, None}
+use Rattle.std.specs.Prelude.{Option as Maybe}
 use Rattle.std.proofs.Math.Path.{sym}
 use Rattle.std.proofs.Common.{◌∙◌, add-one, arith, drop_of_length-le, drop-cons}
 use Rattle.std.proofs.Math.Bool.{false}
@@ -11,30 +12,30 @@ use Rattle.idmap.proofs.DecodeLaws.{low_more}
 
 -- ---- rising ids: where the loop stands
 
-pub record RiseAt (ids : List ℕ) (i prev : ℕ) : Type 0 where
+pub record RiseAt (ids : List ℕ) (i : ℕ) (prev : Maybe ℕ) : Type 0 where
   pub at_most : i ≤ length ids
-  pub same : rises_from (low_of i prev) (drop i ids) ≡ rises_from 0 ids
+  pub same : rises_from (low_of prev) (drop i ids) ≡ rises_from 0 ids
 
-pub rise_first : (ids : List ℕ) → RiseAt ids 0 0
+pub rise_first : (ids : List ℕ) → RiseAt ids 0 None
 rise_first ids = record { at_most = omega arith; same = refl }
 
-module _ (ids : List ℕ) (i prev : ℕ) (st : RiseAt ids i prev) (h : i < length ids) where
-  pub rise_next : leb (low_of i prev) (get_or ids i 0) ≡ true → RiseAt ids (i + 1) (get_or ids i 0)
+module _ (ids : List ℕ) (i : ℕ) (prev : Maybe ℕ) (st : RiseAt ids i prev) (h : i < length ids) where
+  pub rise_next : leb (low_of prev) (get_or ids i 0) ≡ true → RiseAt ids (i + 1) (Some (get_or ids i 0))
   unfolding rises_from
   rise_next up =
-      let one : rises_from (low_of i prev) (drop i ids) ≡ rises_from (suc (get_or ids i 0)) (drop (suc i) ids) = rw (drop-cons ids i 0 h, up) in
-      record { at_most = omega arith; same = rw (low_more, add-one) (sym one ∙ st.same) }
+      let one : rises_from (low_of prev) (drop i ids) ≡ rises_from (suc (get_or ids i 0)) (drop (suc i) ids) = rw (drop-cons ids i 0 h, up) in
+      record { at_most = omega arith; same = rw (low_more (get_or ids i 0), add-one i) (sym one ∙ st.same) }
 
-  pub rise_stop : leb (low_of i prev) (get_or ids i 0) ≡ false → false ≡ rises_from 0 ids
+  pub rise_stop : leb (low_of prev) (get_or ids i 0) ≡ false → false ≡ rises_from 0 ids
   unfolding rises_from
   rise_stop up =
-      let one : rises_from (low_of i prev) (drop i ids) ≡ false = rw (drop-cons ids i 0 h, up) in
+      let one : rises_from (low_of prev) (drop i ids) ≡ false = rw (drop-cons ids i 0 h, up) in
       sym one ∙ st.same
 
-pub rise_last : (ids : List ℕ) (i prev : ℕ) → RiseAt ids i prev → length ids ≤ i → true ≡ rises_from 0 ids
+pub rise_last : (ids : List ℕ) (i : ℕ) (prev : Maybe ℕ) → RiseAt ids i prev → length ids ≤ i → true ≡ rises_from 0 ids
 unfolding rises_from
 rise_last ids i prev st h =
-    let one : rises_from (low_of i prev) (drop i ids) ≡ true = rw (drop_of_length-le ids {i = i} h) in
+    let one : rises_from (low_of prev) (drop i ids) ≡ true = rw (drop_of_length-le ids {i = i} h) in
     sym one ∙ st.same
 
 -- ---- what is refused: one law for each way out

@@ -6,7 +6,7 @@ use Rattle.std.proofs.KnownBytes.{Consumes-trans, Consumes-kept}
 use borrow.Rule.Slice.PartMut.{put_mid, post_of}
 use lib.Seq.{take-add, take-append-le}
 use Rattle.input.proofs.read_full.Goals as goal
-use Rattle.input.proofs.read_full.Goals.{in-Ok, in-Err+else-ne}
+use Rattle.input.proofs.read_full.Goals.{in-Ok, in-Err}
 
 -- what stands behind the front, up to b
 joined : (a b : ℕ) (old new : List ℕ) → a ≤ b → take a new ≡ take a old → take a old ++ slice_range new a b ≡ take b new
@@ -37,7 +37,7 @@ loop-preserved g c =
             ∙ joined from (from + w.in-Ok.n) c.loop.buf (put_mid from room c.loop.buf c.read.new.buf) (omega arith) front)
             (Consumes-trans _ _ _ _ _ c.loop.invariant.2 w.in-Ok.ensures.bytes.0),
       )
-      | in-Err+else-ne w ↦ rw w.filled-is (
+      | in-Err w ↦ rw w.filled-is (
         search rules,
         search rules,
         subst (Consumes _ _) (sym front) (Consumes-kept _ _ _ _ c.loop.invariant.2 w.in-Err.ensures.bytes),

@@ -11,6 +11,7 @@ use Rattle.octets.proofs.text.Written.{nothing, then}
 use Rattle.segment.specs.chain.Chain.{Found}
 use Rattle.segment.specs.Header.{Link, no_link}
 use Rattle.segment.specs.index.Offsets.{link_no}
+use Rattle.segment.specs.index.Numbered.{Numbered}
 use Rattle.manifest.specs.Opening.{opened, states}
 use Rattle.opening.specs.Indexed.{ManifestAt}
 use Rattle.opening.proofs.Indexed.{EntryAt}
@@ -45,14 +46,18 @@ entries_first f t at count h =
     }
 
 module _ (f : List ℕ) (offset count : ℕ) (m : ManifestAt f offset count) where
-  module _ (offsets : List ℕ) (i : ℕ) (h : i < count) (a : EntryAt f offsets m.found offset i) where
+  module _ (offsets : List ℕ) (i : ℕ) (h : i < count) (a : EntryAt f offsets m.found offset i) (p : ℕ) (p-is : p ≡ get_or offsets i 0) where
+    -- the link begins at p
+    numbered : Numbered f p i (link_no f i)
+    numbered = subst (λ (x : ℕ). Numbered f x i (link_no f i)) (sym p-is) a.numbered
+
     abbrev ls : List Link
     ls = m.found.before
 
     abbrev ss : List ℕ
     ss = states m.found
 
-    more : first_lines (i + 1) (opened f) ≡ first_lines i (opened f) ++ text_line_at f (get_or offsets i 0) (state_word (get_or f (state_place offset i) 0))
+    more : first_lines (i + 1) (opened f) ≡ first_lines i (opened f) ++ text_line_at f p (state_word (get_or f (state_place offset i) 0))
     unfolding first_lines
     more =
         let j : i < length ls = omega (arith, m.count_is) in
@@ -65,11 +70,11 @@ module _ (f : List ℕ) (offset count : ℕ) (m : ManifestAt f offset count) whe
           n,
           a.state_is,
           a.link_is,
-          line_at f (get_or offsets i 0) i (link_no f i) (state_word (get_or f (state_place offset i) 0)) a.numbered,
+          line_at f p i (link_no f i) (state_word (get_or f (state_place offset i) 0)) numbered,
         )
 
     pub entries_next : (t₀ t t' : List ℕ) (at end end' : ℕ) → EntriesAt f t₀ t at count i end
-        → Written t t' end (text_line_at f (get_or offsets i 0) (state_word (get_or f (state_place offset i) 0))) end' → end' ≤ end + 97
+        → Written t t' end (text_line_at f p (state_word (get_or f (state_place offset i) 0))) end' → end' ≤ end + 97
         → EntriesAt f t₀ t' at count (i + 1) end'
     entries_next t₀ t t' at end end' s w k =
         let q = s.short in

@@ -12,7 +12,11 @@ use Rattle.octets.proofs.OverLaws.{over_at}
 use Rattle.octets.specs.le.Le.{Bytes}
 use Rattle.answers.specs.Write.{write_answer, write_buffer}
 use Rattle.answers.proofs.WriteLaws.{write_short, write_done}
-use Rattle.answers.specs.declared.Wrote.TheVariants.{Length, Refused}
+use Rattle.std.specs.Prelude.{Result, Ok, Err}
+use Rattle.manifest.specs.declared.Opened.{Opened}
+use Rattle.segment.specs.chain.Chain.{Found}
+use Rattle.segment.specs.Header.{Link}
+use Rattle.std.proofs.Math.Option.{Option}
 use Rattle.answers.specs.limits.Limits.{max_file, max_entries}
 use Rattle.octets.specs.text.Text.{ascii, decimal}
 use Rattle.octets.specs.text.Written.{Written}
@@ -25,7 +29,6 @@ use Rattle.opening.specs.Indexed.{ManifestAt, Indexed}
 use Rattle.opening.proofs.Indexed.{opened_at, opened_end, manifest_numbered, manifest_part, manifest_room}
 use Rattle.opening.specs.FileManifest.{manifest_of}
 use Rattle.opening.proofs.FileManifestLaws.{refused_alike}
-use Rattle.opening.specs.declared.FileManifest.TheVariants.{Refused as FileRefused}
 use Rattle.reading.specs.Listing.{max_listed, heading, refused_line, end_line, list_found, list_with, list_text}
 use Rattle.listing.specs.line.Lines.{text_line_at}
 use Rattle.listing.proofs.line.Lines.{line_at}
@@ -48,8 +51,8 @@ module _ (f offsets : List ℕ) (offset end count t : ℕ) (b : Bytes f) (s : In
   tried-is : tried f (some m.found) ≡ t
   unfolding opened_case found_case
   tried-is =
-      let q : found_case f (some m.found) ≡ ops.At offset end o.0 count t =
-      ap (found_case f) (sym m.opens) ∙ sym (at_within (ops.Refused 1) (found_case f) f m.within) ∙ o.1 in
+      let q : ◌≡◌ {A = Result Opened ℕ} (Ok (found_case f (some m.found))) (Ok (ops.At offset end o.0 count t)) =
+      ap (λ (x : Option (Found Link)). Ok (found_case f x)) (sym m.opens) ∙ sym (at_within (Err 1) (λ (x : Option (Found Link)). Ok (found_case f x)) f m.within) ∙ o.1 in
       cc
 
   -- the text of a file that opens
@@ -82,7 +85,7 @@ module _ (f : List ℕ) where
   list_within h = rw (le-leb (length f) max_listed h)
 
   -- a file without a manifest; none above opening's own limit is within the lister's
-  pub list_refused : (n : ℕ) → length f ≤ max_listed → manifest_of (opened_case f) ≡ FileRefused n → list_text f ≡ refused_line n
+  pub list_refused : (n : ℕ) → length f ≤ max_listed → manifest_of (opened_case f) ≡ Err n → list_text f ≡ refused_line n
   unfolding list_found
   list_refused n h e =
       let w : length f ≤ max_file = omega arith in
@@ -115,8 +118,8 @@ module _ {t₀ t : List ℕ} {xs : List ℕ} {n : ℕ} (w : Written t₀ t 0 xs 
       let s = same_room w in
       omega (arith, w.ends, w.room)
 
-  pub text_short : (buf : List ℕ) → length buf < n → (Refused 9 ≡ write_answer 0 xs buf) × (buf ≡ write_buffer 0 xs buf)
+  pub text_short : (buf : List ℕ) → length buf < n → (Err 9 ≡ write_answer 0 xs buf) × (buf ≡ write_buffer 0 xs buf)
   text_short buf h = write_short xs buf 0 refl (omega (arith, text_length))
 
-  pub text_copied : (buf exit : List ℕ) → n ≤ length buf → exit ≡ over buf 0 (take n t) → (Length n ≡ write_answer 0 xs buf) × (exit ≡ write_buffer 0 xs buf)
+  pub text_copied : (buf exit : List ℕ) → n ≤ length buf → exit ≡ over buf 0 (take n t) → (Ok n ≡ write_answer 0 xs buf) × (exit ≡ write_buffer 0 xs buf)
   text_copied buf exit h e = write_done xs buf 0 n exit refl (omega (arith, text_length)) text_length (e ∙ ap (over buf 0) text-front)

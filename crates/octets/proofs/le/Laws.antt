@@ -1,7 +1,8 @@
 -- Laws of little-endian numbers, once for every width: a number's next byte, its bound, what is written is read back.
 -- Assumes nothing.
 use Rattle.std.specs.Prelude.{ℕ, zero, suc, ◌+◌, ◌-◌, ◌*◌, ◌/◌, ◌%◌, ◌^◌, ◌≤◌, ◌<◌, ◌≡◌, refl, List, [], ◌∷◌, ◌++◌, length, take, drop, get_or, set}
-use Rattle.std.proofs.Common.{sym, ap, ◌∙◌, div-one, div-lt_iff_lt-mul, pow-suc, add-one, arith, lit<, length-drop, drop-cons, take_at, get_or-drop, length-take-le}
+use Rattle.std.proofs.Common.{sym, ap, ◌∙◌, div-one, div-lt_iff_lt-mul, pow-suc, add-one, arith, lit<, length-append, length-drop, drop-cons, take_at, get_or-drop, length-take-le, take-take}
+use Rattle.std.proofs.lemmas.List.{get_or_at, get_or-take}
 use Rattle.std.proofs.Math.Nat.{div-div-eq-div-mul, pow-succ', pow-le-pow_right}
 use Rattle.octets.specs.Over.{over}
 use Rattle.octets.proofs.OverLaws.{over_none, over_turn, over_long}
@@ -132,6 +133,39 @@ reads_last s at k i r st h =
     let e : k - i ≡ k = omega arith in
     let e2 : at + i ≡ at = omega arith in
     (rw (e, e2) at st.value, rw e at st.room)
+
+-- the same where the loop goes over the part itself, from its end: `rest` is what it has left
+pub record ReadsBack (s : List ℕ) (at k : ℕ) (rest : List ℕ) (r : ℕ) : Type 0 where
+  pub front : rest ≡ take (length rest) (drop at s)
+  pub reads : Reads s at k (length rest) r
+
+pub back_first : (s : List ℕ) (at k n : ℕ) (rest : List ℕ) → at + k ≤ length s → n ≡ k → rest ≡ take n (drop at s) → ReadsBack s at k rest 0
+back_first s at k n rest h e is =
+    let long : length rest ≡ k = rw is (length-take-le n (drop at s) (omega (arith, length-drop at s)) ∙ e) in
+    record { front = rw long (is ∙ ap (λ (m : ℕ). take m (drop at s)) e); reads = rw long (reads_first s at k) }
+
+pub back_next : (s : List ℕ) (at k : ℕ) (rest left : List ℕ) (r b : ℕ) → ReadsBack s at k rest r → at + k ≤ length s → k ≤ 8 → Bytes s → rest ≡ left ++ (b ∷ [])
+    → (r * 256 + b < 2 ^ 64) × ReadsBack s at k left (r * 256 + b)
+back_next s at k rest left r b st h h8 t e =
+    let long : length rest ≡ suc (length left) = rw e (simp length-append (omega arith)) in
+    let at_most = st.reads.at_most in
+    let front : left ++ (b ∷ []) ≡ take (length rest) (drop at s) = sym e ∙ st.front in
+    let here : b ≡ get_or s (at + length left) 0 =
+    sym (get_or_at left b [] 0 (length left) refl)
+    ∙ ap (λ (l : List ℕ). get_or l (length left) 0) front
+    ∙ get_or-take (length rest) (drop at s) (length left) 0 (omega arith)
+    ∙ get_or-drop at s (length left) 0 in
+    let one : length rest - 1 ≡ length left = omega arith in
+    let byte : b < 256 = omega (arith, t (at + length left)) in (
+      reads_fits s at k (length rest) r b st.reads h8 (omega arith) byte,
+      record {
+        front =
+            sym (take_at left (b ∷ []) (length left) refl)
+            ∙ ap (take (length left)) front
+            ∙ take-take (length left) (length rest) (drop at s) (omega arith);
+        reads = rw one at (reads_next s at k (length rest) r b st.reads (omega arith) h (rw one here) byte);
+      },
+    )
 
 -- the writing loop: i bytes are written, and rest is what is left of x
 pub record Writes (s₀ s : List ℕ) (at k x i rest : ℕ) : Type 0 where

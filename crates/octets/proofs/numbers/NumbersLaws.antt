@@ -1,42 +1,39 @@
 -- The cases of a search in a list of numbers, and of one that follows another.
 -- Assumes nothing.
-use Rattle.octets.specs.numbers.Numbers.{index_answer, least_next, index_of}
+use Rattle.octets.specs.numbers.Numbers.{least_next, index_of}
+use Rattle.octets.specs.Options.{option_of}
+use Rattle.std.specs.Prelude.{Some, None}
+use Rattle.std.specs.Prelude.{Option as Maybe}
 use Rattle.std.proofs.Math.Path.{ap, refl, sym}
 use Rattle.std.specs.Prelude.{◌≡◌, Bool, true, false, cond, leb, ltb, eqb, List, [], ◌∷◌, length, drop, get_or}
 use Rattle.std.proofs.Common.{◌∙◌, drop_of_length-le, drop-cons}
-use Prim.Native.Nat.{ℕ, ◌+◌, ◌≤◌, ◌<◌, suc, zero}
+use Prim.Native.Nat.{ℕ, ◌+◌, ◌≤◌, ◌<◌, suc}
 use Rattle.std.proofs.Math.Option.{Option, none, some}
 use native.Mathlib.Omega.{arith}
-use Rattle.octets.specs.declared.numbers.Index.TheVariants.{Place as IndexPlace, Nowhere}
 use borrow.Author.Tests.{le-leb, lt-leb, ltb-true, ltb-false, eq-eqb, ne_eqb}
 use Rattle.std.proofs.Math.Numerals.{add-one}
 
-pub was_place : (o : Option ℕ) (i : ℕ) → index_answer o ≡ IndexPlace i → o ≡ some i
-unfolding index_answer
+pub was_place : (o : Option ℕ) (i : ℕ) → option_of o ≡ Some i → o ≡ some i
 was_place none i e = absurd (let z : ◌≡◌ {A = ℕ} 0 1 = cc in omega arith)
 was_place (some j) i e = let q : j ≡ i = cc in ap some q
 
-pub was_nowhere : (o : Option ℕ) → index_answer o ≡ Nowhere → o ≡ none
-unfolding index_answer
+pub was_nowhere : (o : Option ℕ) → option_of o ≡ None → o ≡ none
 was_nowhere none e = refl
 was_nowhere (some j) e = absurd (let z : ◌≡◌ {A = ℕ} 0 1 = cc in omega arith)
 
-pub index_place : (o : Option ℕ) (i : ℕ) → some i ≡ o → IndexPlace i ≡ index_answer o
-unfolding index_answer
+pub index_place : (o : Option ℕ) (i : ℕ) → some i ≡ o → Some i ≡ option_of o
 index_place o i e = rw (sym e)
 
-pub index_nowhere : (o : Option ℕ) → none ≡ o → Nowhere ≡ index_answer o
-unfolding index_answer
+pub index_nowhere : (o : Option ℕ) → none ≡ o → None ≡ option_of o
 index_nowhere o e = rw (sym e)
 
 -- ---- ids
 
-pub above_first : (before prev next : ℕ) → before ≡ 0 → true ≡ leb (least_next before prev) next
-above_first before prev next e = rw e (sym (le-leb 0 next (omega arith)))
+pub above_first : (prev : Maybe ℕ) (next : ℕ) → prev ≡ None → true ≡ leb (least_next prev) next
+above_first prev next e = rw e (sym (le-leb 0 next (omega arith)))
 
-pub above_next : (before prev next : ℕ) → (before ≡ 0 → ⊥) → ltb prev next ≡ leb (least_next before prev) next
-above_next zero prev next e = absurd (e refl)
-above_next (suc i) prev next e = go (ltb prev next) refl
+pub above_next : (prev next : ℕ) → ltb prev next ≡ leb (least_next (Some prev)) next
+above_next prev next = go (ltb prev next) refl
   where
     go : (t : Bool) → ltb prev next ≡ t → t ≡ leb (prev + 1) next
     go true h = let k : prev < next = ltb-true prev next h in sym (le-leb (prev + 1) next (omega arith))

@@ -1,10 +1,10 @@
 -- The laws of specs/index/Numbered.antt.
 -- Assumes nothing.
-use Rattle.std.specs.Prelude.{◌≡◌, refl, Bool, drop, get_or}
+use Rattle.std.specs.Prelude.{◌≡◌, refl, drop, get_or, Some, None}
+use Rattle.std.specs.Prelude.{Option as Maybe}
 use Rattle.std.proofs.Math.Path.{sym, ap}
 use Rattle.std.proofs.Common.{◌∙◌, add-one, length-append, drop-drop, take_at}
 use Rattle.std.proofs.Math.Option.{some}
-use Rattle.std.proofs.Math.Bool.{true, false}
 use mathlib.Core.List.{List, [], ◌∷◌, ◌++◌}
 use Prim.Native.Nat.{ℕ, suc, ◌+◌, ◌-◌, ◌≤◌, ◌<◌}
 use native.Mathlib.Omega.{arith}
@@ -15,7 +15,6 @@ use Rattle.octets.specs.le.Le.{le_at, le_of}
 use Rattle.segment.specs.chain.Laws.{afters, sizes}
 use Rattle.segment.proofs.chain.Laws.{afters_append}
 use Rattle.segment.proofs.chain.Walk.{walk_at}
-use Rattle.segment.specs.declared.Step.TheVariants.{Sound}
 use Rattle.segment.specs.Header.{Link, State, start, reader, link_at, size, after, no_link}
 use Rattle.segment.specs.Laws.{link_front}
 use Rattle.segment.proofs.Laws.{segment_format, lies, afters_at}
@@ -87,22 +86,23 @@ number_of f b z l e =
 -- ---- the step at a numbered link
 
 module _ (f : List ℕ) (p i : ℕ) (l : Link) (m : Numbered f p i l) where
-  stepped : (first : Bool) (prev : ℕ) → afters reader start (take i (chain f)) ≡ state_at p first prev
-      → step_at f p first prev ≡ Sound (p + size l) l.id (length l.payload) l.kind l.flags
+  stepped : (prev : Maybe ℕ) → afters reader start (take i (chain f)) ≡ state_at p prev
+      → step_at f p prev ≡ Some (record { end = p + size l; id = l.id; length = length l.payload; kind = l.kind; flags = l.flags })
   unfolding step_at step_of
-  stepped first prev e =
-      let r : link_at (state_at p first prev) (drop p f) ≡ some l = rw e at m.reads in
-      ap step_of r ∙ ap (λ (o : ℕ). Sound (o + size l) l.id (length l.payload) l.kind l.flags) m.offset_is
+  stepped prev e =
+      let r : link_at (state_at p prev) (drop p f) ≡ some l = rw e at m.reads in
+      ap step_of r ∙ rw m.offset_is
 
-  -- the first link is read with any id before it
-  pub numbered_first : i ≡ 0 → (prev : ℕ) → step_at f p true prev ≡ Sound (p + size l) l.id (length l.payload) l.kind l.flags
+  -- the first link is read with none before it
+  pub numbered_first : i ≡ 0 → step_at f p None ≡ Some (record { end = p + size l; id = l.id; length = length l.payload; kind = l.kind; flags = l.flags })
   unfolding afters sizes
-  numbered_first e prev =
+  numbered_first e =
       let z : p ≡ 0 = sym m.placed.place ∙ ap (λ (n : ℕ). sizes reader (take n (chain f))) e in
-      stepped true prev (ap (λ (n : ℕ). afters reader start (take n (chain f))) e ∙ ap (λ (n : ℕ). state_at n true prev) (sym z))
+      stepped None (ap (λ (n : ℕ). afters reader start (take n (chain f))) e ∙ ap (λ (n : ℕ). state_at n None) (sym z))
 
   -- every other with the id of the one before
-  pub numbered_later : 0 < i → step_at f p false (link_no f (i - 1)).id ≡ Sound (p + size l) l.id (length l.payload) l.kind l.flags
+  pub numbered_later : 0 < i
+      → step_at f p (Some (link_no f (i - 1)).id) ≡ Some (record { end = p + size l; id = l.id; length = length l.payload; kind = l.kind; flags = l.flags })
   unfolding afters
   numbered_later h =
       let b = take (i - 1) (chain f) in
@@ -113,4 +113,4 @@ module _ (f : List ℕ) (p i : ℕ) (l : Link) (m : Numbered f p i l) where
       let q : afters reader start (take i (chain f)) ≡ after (afters reader start b) x = ap (afters reader start) e ∙ afters_append reader start b (x ∷ []) in
       let z : sizes reader (take i (chain f)) ≡ p = m.placed.place in
       let a : (afters reader start b).at + size x ≡ p = sym (ap (λ (st : State). st.at) q) ∙ afters_at start (take i (chain f)) ∙ omega arith in
-      stepped false x.id (q ∙ ap (λ (n : ℕ). state_at n false x.id) a)
+      stepped (Some x.id) (q ∙ ap (λ (n : ℕ). state_at n (Some x.id)) a)

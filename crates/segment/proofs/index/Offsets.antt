@@ -1,10 +1,12 @@
 -- The laws of specs/index/Offsets.antt.
 -- Assumes nothing.
-use Rattle.std.specs.Prelude.{◌≡◌, refl, Bool, true, false, List, [], ◌∷◌, ◌++◌, ℕ, zero, suc, ◌+◌, ◌%◌, ◌≤◌, ◌<◌, length, take, drop, get_or, set}
-use Rattle.std.proofs.Common.{sym, ap, ◌∙◌, arith, add-one, length-take, get_or-take, take_all, take-suc-set, length-take-le}
+use Rattle.std.specs.Prelude.{◌≡◌, refl, List, [], ◌∷◌, ◌++◌, ℕ, zero, suc, ◌+◌, ◌%◌, ◌≤◌, ◌<◌, length, take, drop, get_or, set, Some, None}
+use Rattle.std.specs.Prelude.{Option as Maybe}
+use Rattle.std.proofs.Common.{sym, ap, ◌∙◌, arith, add-one, length-take, get_or-take, take_all, take-suc-set, length-take-le, length-set}
+use Rattle.std.proofs.lemmas.List.{take-set, take-append-le}
 use Rattle.std.proofs.Math.Seq.{split_at}
 use Rattle.segment.specs.chain.Laws.{sizes}
-use Rattle.segment.specs.declared.Step.TheVariants.{Sound, Stop}
+use Rattle.segment.specs.declared.Step.{Step}
 use Rattle.segment.specs.Header.{Link, reader, no_link}
 use Rattle.segment.proofs.Laws.{size_least}
 use Rattle.segment.specs.Step.{step_at}
@@ -68,26 +70,26 @@ module _ (f offsets : List ℕ) (n : ℕ) (s : Stored f offsets n) where
 -- ---- a loop that walks the chain from byte 0 and stores where each link begins
 
 -- n links are passed, and their offsets are stored
-pub record CollectAt (f : List ℕ) (n at : ℕ) (first : Bool) (prev : ℕ) (offsets : List ℕ) : Type 0 where
-  pub walked : ChainAt f n at first prev
+pub record CollectAt (f : List ℕ) (n at : ℕ) (prev : Maybe ℕ) (offsets : List ℕ) : Type 0 where
+  pub walked : ChainAt f n at prev
   pub at_most : n ≤ most
   pub stored : take n offsets ≡ offsets_of (take n (chain f))
 
-pub collect_first : (f : List ℕ) (prev : ℕ) (offsets : List ℕ) → CollectAt f 0 0 true prev offsets
-collect_first f prev offsets = record { walked = chain_first f prev; at_most = omega arith; stored = refl }
+pub collect_first : (f : List ℕ) (offsets : List ℕ) → CollectAt f 0 0 None offsets
+collect_first f offsets = record { walked = chain_first f; at_most = omega arith; stored = refl }
 
-module _ (f : List ℕ) (n at : ℕ) (first : Bool) (prev : ℕ) (offsets : List ℕ) (c : CollectAt f n at first prev offsets) where
+module _ (f : List ℕ) (n at : ℕ) (prev : Maybe ℕ) (offsets : List ℕ) (c : CollectAt f n at prev offsets) where
   -- what the links passed say of those that can matter, where these are the same
   whole : take n (chain f) ≡ take most (chain f) → (n ≡ length (take most (chain f))) × (take n offsets ≡ offsets_of (take most (chain f)))
   whole e =
       (sym (length-take-le n (chain f) c.walked.walked.at_most) ∙ ap length e, c.stored ∙ ap offsets_of e)
 
   -- the chain stops
-  pub collect_stop : step_at f at first prev ≡ Stop → (n ≡ length (take most (chain f))) × (take n offsets ≡ offsets_of (take most (chain f)))
+  pub collect_stop : step_at f at prev ≡ None → (n ≡ length (take most (chain f))) × (take n offsets ≡ offsets_of (take most (chain f)))
   collect_stop e =
       let at_most : n ≤ most = c.at_most in
-      let k = chain_count f n at first prev c.walked e in
-      whole (chain_stop f n at first prev c.walked e ∙ sym (take_all most (chain f) (omega arith)))
+      let k = chain_count f n at prev c.walked e in
+      whole (chain_stop f n at prev c.walked e ∙ sym (take_all most (chain f) (omega arith)))
 
   -- as many links are passed as can matter
   pub collect_full : most ≤ n → (n ≡ length (take most (chain f))) × (take n offsets ≡ offsets_of (take most (chain f)))
@@ -96,19 +98,32 @@ module _ (f : List ℕ) (n at : ℕ) (first : Bool) (prev : ℕ) (offsets : List
       let e : n ≡ most = omega arith in
       whole (ap (λ (k : ℕ). take k (chain f)) e)
 
+  -- the same of the whole list, and whatever stands behind it
+  pub collect_all : (more : List ℕ) → most ≤ n → most ≤ length offsets
+      → (most ≡ length (take most (chain f))) × (take most (offsets ++ more) ≡ offsets_of (take most (chain f)))
+  collect_all more h k =
+      let at_most : n ≤ most = c.at_most in
+      let e : n ≡ most = omega arith in
+      let w = collect_full h in
+      (sym e ∙ w.0, take-append-le most offsets more k ∙ ap (λ (j : ℕ). take j offsets) (sym e) ∙ w.1)
+
   -- one link more
-  pub collect_next : (end id len kind flags : ℕ) → step_at f at first prev ≡ Sound end id len kind flags → n < most → n < length offsets
-      → CollectAt f (n + 1) end false id (set offsets n at)
-  collect_next end id len kind flags e h k =
-      let s = step_link f at first prev end id len kind flags e in
+  pub collect_next : (s : Step) → step_at f at prev ≡ Some s → n < most → n < length offsets
+      → CollectAt f (n + 1) s.end (Some s.id) (set offsets n at)
+  collect_next s e h k =
+      let l = step_link f at prev s e in
       record {
-        walked = chain_next f n at first prev c.walked end id len kind flags e;
+        walked = chain_next f n at prev c.walked s e;
         at_most = omega arith;
         stored =
             ap (λ (m : ℕ). take m (set offsets n at)) (add-one n)
             ∙ take-suc-set offsets n at k
             ∙ ap (λ (xs : List ℕ). xs ++ at ∷ []) c.stored
-            ∙ ap (λ (x : ℕ). offsets_of (take n (chain f)) ++ x ∷ []) (sym s.offset_is)
-            ∙ sym (offsets_append (take n (chain f)) (s.link ∷ []))
-            ∙ ap offsets_of (sym (chain_link f n at first prev c.walked end id len kind flags e));
+            ∙ ap (λ (x : ℕ). offsets_of (take n (chain f)) ++ x ∷ []) (sym l.offset_is)
+            ∙ sym (offsets_append (take n (chain f)) (l.link ∷ []))
+            ∙ ap offsets_of (sym (chain_link f n at prev c.walked s e));
       }
+
+-- the number behind those that are stored does not matter, nor does what stands behind the list
+pub not_stored : (xs ys : List ℕ) (n v : ℕ) → n < length xs → take n (set xs n v ++ ys) ≡ take n xs
+not_stored xs ys n v h = take-append-le n (set xs n v) ys (omega (arith, length-set xs n v)) ∙ take-set xs n v

@@ -1,22 +1,18 @@
 -- The laws of specs/block/Block.antt.
 -- Assumes nothing.
-use Rattle.std.specs.Prelude.{ℕ, ◌+◌, ◌-◌, ◌*◌, ◌≤◌, ◌<◌, ◌≡◌, true, false, List, length, drop}
+use Rattle.std.specs.Prelude.{ℕ, ◌+◌, ◌-◌, ◌*◌, ◌≤◌, ◌<◌, ◌≡◌, true, false, List, length, drop, Result, Ok, Err}
 use Rattle.std.proofs.Math.Path.{sym, ap}
 use Rattle.std.proofs.Common.{subst, ◌∙◌}
 use Rattle.std.proofs.Math.ListN.{take}
 use Rattle.octets.proofs.Parts.{tail_all}
 use Rattle.octets.specs.le.Le.{le_at}
 use Rattle.crc32c.specs.Crc.{crc_of}
-use Rattle.answers.specs.declared.Wrote.{Wrote}
-use Rattle.answers.specs.declared.Wrote.TheVariants.{Length as MapLength, Refused as MapRefused}
 use Rattle.idmap.specs.Decode.{map_of, ids_of, map_answer}
 use Rattle.idmap.specs.DecodeLaws.{Filled}
 use Rattle.idmap.proofs.DecodeLaws.{map_five, was_whole}
 use Rattle.idmap.proofs.Count.{whole_count}
 use Rattle.vecseg.specs.Payload.{Line, width, columns_length, filled, BadBlock, block_end, block_of}
 use Rattle.vecseg.proofs.BlockLaws.{filled_fits, block_short, block_broken, block_end_is, block_map_fits, end_short, end_checksum, end_padding, end_sound}
-use Rattle.vec_read.specs.declared.block.Block.{Block}
-use Rattle.vec_read.specs.declared.block.Block.TheVariants.{Sound, Refused}
 use Rattle.vec_read.specs.block.Block.{line_with, SoundTo, BlockSays}
 
 module _ (l : Line) (count dim dtype : ℕ) (p : l.count ≡ count) (q : l.dim ≡ dim) (r : l.dtype ≡ dtype) (s own : List ℕ) where
@@ -28,26 +24,26 @@ module _ (l : Line) (count dim dtype : ℕ) (p : l.count ≡ count) (q : l.dim �
   unfolding line_with columns_length
   same-ids = rw (← p, ← q, ← r)
 
-  pub line_with_is : (b : Block) → BlockSays (line_with count dim dtype) s own b → BlockSays l s own b
+  pub line_with_is : (b : Result ℕ ℕ) → BlockSays (line_with count dim dtype) s own b → BlockSays l s own b
   unfolding BlockSays line_with
-  line_with_is (Refused e) h = sym same_block ∙ h
-  line_with_is (Sound end) h =
+  line_with_is (Err e) h = sym same_block ∙ h
+  line_with_is (Ok end) h =
       record { sound = sym same_block ∙ h.sound; room = h.room; checksum = h.checksum; ids = ap (λ (n : ℕ). take n own) p ∙ h.ids ∙ same-ids }
 
 -- the cases, as a caller meets them
-pub was_sound : (l : Line) (s own : List ℕ) (b : Block) → BlockSays l s own b → (end : ℕ) → b ≡ Sound end → SoundTo l s own end
+pub was_sound : (l : Line) (s own : List ℕ) (b : Result ℕ ℕ) → BlockSays l s own b → (end : ℕ) → b ≡ Ok end → SoundTo l s own end
 unfolding BlockSays
 was_sound l s own b h end e = subst (BlockSays l s own) e h
 
-pub was_bad : (l : Line) (s own : List ℕ) (b : Block) → BlockSays l s own b → (n : ℕ) → b ≡ Refused n → block_of l s ≡ BadBlock n
+pub was_bad : (l : Line) (s own : List ℕ) (b : Result ℕ ℕ) → BlockSays l s own b → (n : ℕ) → b ≡ Err n → block_of l s ≡ BadBlock n
 unfolding BlockSays
 was_bad l s own b h n e = subst (BlockSays l s own) e h
 
-answers_bad : (l : Line) (s own : List ℕ) (e : ℕ) → block_of l s ≡ BadBlock e → BlockSays l s own (Refused e)
+answers_bad : (l : Line) (s own : List ℕ) (e : ℕ) → block_of l s ≡ BadBlock e → BlockSays l s own (Err e)
 unfolding BlockSays
 answers_bad l s own e p = p
 
-answers_sound : (l : Line) (s own : List ℕ) (end : ℕ) → SoundTo l s own end → BlockSays l s own (Sound end)
+answers_sound : (l : Line) (s own : List ℕ) (end : ℕ) → SoundTo l s own end → BlockSays l s own (Ok end)
 unfolding BlockSays
 answers_sound l s own end h = h
 
@@ -58,7 +54,7 @@ unfolding columns_length line_with
 columns_are count dim dtype w e = rw e
 
 module _ (s own : List ℕ) (count dim dtype columns : ℕ) (is : columns ≡ columns_length (line_with count dim dtype)) where
-  pub check_columns : length s < columns → BlockSays (line_with count dim dtype) s own (Refused 5)
+  pub check_columns : length s < columns → BlockSays (line_with count dim dtype) s own (Err 5)
   check_columns h = answers_bad _ s own 5 (block_short (line_with count dim dtype) s (rw is at h))
 
   module _ (room : columns ≤ length s) where
@@ -68,32 +64,32 @@ module _ (s own : List ℕ) (count dim dtype columns : ℕ) (is : columns ≡ co
     same_map : map_of count (drop (columns_length (line_with count dim dtype)) s) ≡ map_of count (take (length s - columns) (drop columns s))
     same_map = ap (map_of count) (ap (λ (n : ℕ). drop n s) (sym is) ∙ sym (tail_all s columns))
 
-    as-map : (a : Wrote) → map_answer (map_of count (take (length s - columns) (drop columns s))) ≡ a → map_answer (map_of count (drop (columns_length (line_with count dim dtype)) s)) ≡ a
+    as-map : (a : Result ℕ ℕ) → map_answer (map_of count (take (length s - columns) (drop columns s))) ≡ a → map_answer (map_of count (drop (columns_length (line_with count dim dtype)) s)) ≡ a
     as-map a p = ap map_answer same_map ∙ p
 
-    pub check_broken : (e : ℕ) → map_answer (map_of count (take (length s - columns) (drop columns s))) ≡ MapRefused e → BlockSays (line_with count dim dtype) s own (Refused e)
+    pub check_broken : (e : ℕ) → map_answer (map_of count (take (length s - columns) (drop columns s))) ≡ Err e → BlockSays (line_with count dim dtype) s own (Err e)
     unfolding line_with
     check_broken e p =
-        rw (map_five _ e p) (answers_bad _ s own 5 (block_broken (line_with count dim dtype) s there e (as-map (MapRefused e) p)))
+        rw (map_five _ e p) (answers_bad _ s own 5 (block_broken (line_with count dim dtype) s there e (as-map (Err e) p)))
 
-    module _ (n : ℕ) (p : map_answer (map_of count (take (length s - columns) (drop columns s))) ≡ MapLength n) where
+    module _ (n : ℕ) (p : map_answer (map_of count (take (length s - columns) (drop columns s))) ≡ Ok n) where
       pub check_fits : columns + n ≤ length s
       unfolding line_with
-      check_fits = rw is (block_map_fits (line_with count dim dtype) s there n (as-map (MapLength n) p))
+      check_fits = rw is (block_map_fits (line_with count dim dtype) s there n (as-map (Ok n) p))
 
       to_end : block_of (line_with count dim dtype) s ≡ block_end (columns + n) s
       unfolding line_with
-      to_end = rw is (block_end_is (line_with count dim dtype) s there n (as-map (MapLength n) p))
+      to_end = rw is (block_end_is (line_with count dim dtype) s there n (as-map (Ok n) p))
 
-      pub check_end : length s < columns + n + 4 → BlockSays (line_with count dim dtype) s own (Refused 5)
+      pub check_end : length s < columns + n + 4 → BlockSays (line_with count dim dtype) s own (Err 5)
       check_end h = answers_bad _ s own 5 (to_end ∙ end_short (columns + n) s h)
 
       module _ (four : columns + n + 4 ≤ length s) where
-        pub check_checksum : (le_at 4 s (columns + n) ≡ crc_of (take (columns + n) s) → ⊥) → BlockSays (line_with count dim dtype) s own (Refused 7)
+        pub check_checksum : (le_at 4 s (columns + n) ≡ crc_of (take (columns + n) s) → ⊥) → BlockSays (line_with count dim dtype) s own (Err 7)
         check_checksum h = answers_bad _ s own 7 (to_end ∙ end_checksum (columns + n) s four h)
 
         module _ (same : le_at 4 s (columns + n) ≡ crc_of (take (columns + n) s)) where
-          pub check_padding : filled (columns + n + 4) s ≡ false → BlockSays (line_with count dim dtype) s own (Refused 5)
+          pub check_padding : filled (columns + n + 4) s ≡ false → BlockSays (line_with count dim dtype) s own (Err 5)
           check_padding h = answers_bad _ s own 5 (to_end ∙ end_padding (columns + n) s four same h)
 
           -- the map is whole, so that it has as many ids as were asked for
@@ -104,7 +100,7 @@ module _ (s own : List ℕ) (count dim dtype columns : ℕ) (is : columns ≡ co
               ap (λ (i : ℕ). take i own) (sym k) ∙ f ∙ ap ids_of (sym same_map)
 
           pub check_sound : filled (columns + n + 4) s ≡ true → Filled (map_of count (take (length s - columns) (drop columns s))) own
-              → BlockSays (line_with count dim dtype) s own (Sound (columns + n))
+              → BlockSays (line_with count dim dtype) s own (Ok (columns + n))
           unfolding line_with
           check_sound h f =
               answers_sound _ s own (columns + n)

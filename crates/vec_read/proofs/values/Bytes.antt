@@ -1,7 +1,8 @@
 -- Facts of a byte, computed at each of its values by one test: of signed numbers. And of a NaN's pattern.
 -- Assumes nothing.
 use Rattle.std.specs.Prelude.{ℕ, zero, suc, ◌+◌, ◌-◌, ◌%◌, ◌^◌, ◌<◌, ◌≤◌, ◌≡◌, refl, Bool, true, false, not, List, [], ◌∷◌, get_or, T, ltb, ℤ, pos, ◌-ℤ◌, Float}
-use Rattle.std.proofs.Common.{sym, ap, subst, ◌∙◌, add-zero, zero-add, add-suc, suc-add, le_of_suc-le-suc, not-suc-le-zero, arith, ltb-true, lt-ltb, le-ltb, to_z, of_z, SFits}
+use Rattle.std.proofs.Common.{sym, ap, subst, ◌∙◌, add-zero, zero-add, add-suc, suc-add, le_of_suc-le-suc, not-suc-le-zero, arith, ltb-true, lt-ltb, le-ltb, to_z, of_z, SFits, lt_of_not-le}
+use Rattle.std.proofs.Math.Decide.{dec_le}
 use Rattle.std.specs.Int.Signed.{mag}
 use Rattle.std.specs.Float.{nan, inf, fin, binary32}
 use Rattle.std.specs.Float.Ieee.{of_bits, nan_bits, is_nan}
@@ -43,6 +44,14 @@ back_is b h k = high (λ b. to_z w8 (of_z w8 (to_z w16 (of_z w16 (less b))))) si
 
 pub low_is : (b : ℕ) → b < 128 → to_z w8 b ≡ signed_of b
 low_is b h = simp (lt-ltb b 128 h)
+
+-- a byte in two's complement, as the language reads it
+pub signed_is : (b : ℕ) → b < 256 → to_z w8 b ≡ signed_of b
+signed_is b h = pick (dec_le 128 b)
+  where
+    pick : Dec (128 ≤ b) → to_z w8 b ≡ signed_of b
+    pick (yes k) = high (to_z w8) signed_of (pos 0) refl b k h
+    pick (no k) = low_is b (lt_of_not-le k)
 
 -- a pattern above an infinity's is a NaN's, and no other is
 is_nan_value : (x : Float) → is_nan x ≡ true → x ≡ nan

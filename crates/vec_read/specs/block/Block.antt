@@ -2,15 +2,13 @@
 -- call hands over by its numbers.
 -- The laws stand in proofs/block/BlockLaws.antt. Definitions only.
 -- Assumes nothing.
-use Rattle.std.specs.Prelude.{ℕ, ◌+◌, ◌≤◌, ◌≡◌, List, length, drop}
+use Rattle.std.specs.Prelude.{ℕ, ◌+◌, ◌≤◌, ◌≡◌, List, length, drop, Result, Ok, Err}
 use Rattle.std.proofs.Math.ListN.{take}
 use Rattle.octets.specs.Round.{round64}
 use Rattle.octets.specs.le.Le.{le_at}
 use Rattle.crc32c.specs.Crc.{crc_of}
 use Rattle.idmap.specs.Decode.{map_of, ids_of}
 use Rattle.vecseg.specs.Payload.{Line, columns_length, SoundBlock, BadBlock, block_of}
-use Rattle.vec_read.specs.declared.block.Block.{Block}
-use Rattle.vec_read.specs.declared.block.Block.TheVariants.{Sound, Refused}
 
 -- the size that a block takes does not depend on where its line says it begins, nor on its tier
 unfoldable pub line_with : ℕ → ℕ → ℕ → Line
@@ -23,6 +21,6 @@ pub record SoundTo (l : Line) (s own : List ℕ) (end : ℕ) : Type 0 where
   pub checksum : le_at 4 s end ≡ crc_of (take end s)
   pub ids : take l.count own ≡ ids_of (map_of l.count (drop (columns_length l) s))
 
-unfoldable pub BlockSays : Line → List ℕ → List ℕ → Block → Type 0
-BlockSays l s own (Sound end) = SoundTo l s own end
-BlockSays l s own (Refused e) = block_of l s ≡ BadBlock e
+unfoldable pub BlockSays : Line → List ℕ → List ℕ → Result ℕ ℕ → Type 0
+BlockSays l s own (Ok end) = SoundTo l s own end
+BlockSays l s own (Err e) = block_of l s ≡ BadBlock e

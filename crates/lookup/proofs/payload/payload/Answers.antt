@@ -1,17 +1,17 @@
 -- `lookup::payload::payload` meets its contract: the number of the place, and the part that lies there.
--- Assumes nothing.
-use Rattle.std.proofs.Common.{ap, subst, ◌∙◌}
-use Rattle.reading.specs.Answers.{part_in}
-use Rattle.reading.specs.Part.{place_of}
-use Rattle.reading.specs.PartLaws.{place_number, Hands}
-use Rattle.reading.proofs.PartLaws.{number_same, hands_part}
+use Rattle.std.proofs.Common.{subst, sym, ◌∙◌}
+use Rattle.answers.proofs.HandedOn.{handed_number}
+use Rattle.reading.specs.PartLaws.{Hands}
+use Rattle.reading.proofs.PartLaws.{number_same, number_not, number_at, hands_part}
 use Rattle.lookup.proofs.payload.payload.Goals as goal
 
-pub returns : goal.returns
-returns c =
-    let file = c.args.file in
-    let id = c.args.id in
-    let place = c.payload_place-place in (
-      c.number_of.ensures ∙ ap place_number place.ensures ∙ number_same (place_of (part_in file.now id)),
-      hands_part c.part_at.result file id (subst (Hands c.part_at.result file) place.ensures c.part_at.ensures),
-    )
+pub returns-in_err-place-clause-number : goal.returns-in_err-place-clause-number
+returns-in_err-place-clause-number c =
+    handed_number _ _ c.from_residual.ensures.1 ∙ number_not _ _ (sym c.in_err-place.ensures) ∙ number_same _
+
+pub returns-clause-number : goal.returns-clause-number
+returns-clause-number c = number_at _ _ _ (sym c.in_ok-place.ensures) ∙ number_same _
+
+pub returns-clause-part : goal.returns-clause-part
+returns-clause-part c =
+    hands_part c.part_at.result c.args.file c.args.id (subst (Hands c.part_at.result c.args.file) c.in_ok-place.ensures c.part_at.ensures)

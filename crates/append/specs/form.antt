@@ -1,0 +1,2 @@
+-- What the form of a batch is refused with.
+pub mod Number

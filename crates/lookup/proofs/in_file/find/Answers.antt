@@ -1,0 +1,8 @@
+-- `lookup::in_file::find` meets its contract, by what opening answers.
+use Rattle.std.proofs.Common.{◌∙◌}
+use Rattle.answers.proofs.HandedOn.{handed_on}
+use Rattle.lookup.proofs.in_segment.LocatedLaws.{located_refused}
+use Rattle.lookup.proofs.in_file.find.Goals as goal
+
+pub returns-in_err-directory : goal.returns-in_err-directory
+returns-in_err-directory c = handed_on _ _ c.from_residual.ensures.1 ∙ located_refused _ _ _ c.in_err-directory.ensures.err

@@ -1,0 +1,6 @@
+use Rattle.std.proofs.Common.{◌∙◌}
+use Rattle.octets.proofs.ZeroLaws.{same_pointwise}
+use Rattle.octets.proofs.same.Goals as goal
+
+pub returns : goal.returns
+returns c = c.eq.ensures ∙ same_pointwise c.args.a.now c.args.b.now
