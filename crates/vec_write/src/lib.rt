@@ -12,10 +12,10 @@ ghost use Rattle.vecseg.specs.Writer.{vec_bad, vec_bytes};
 use answers::Refusal;
 use idmap_write::Map;
 
-// Kept: dtype, tier and encoding are any numbers, since C may hand over any: `rvf_vec_write` promises 14 for those that
-// are none.
 // The id map of an input that is taken; 14 where it breaks a rule. Count, dim and width are bounded before they are
 // multiplied.
+// Kept: dtype, tier and encoding are any numbers, since C may hand over any: `rvf_vec_write` promises 14 for those that
+// are none.
 fn check<'a>(
     ids: &'a [u64],
     columns: &[u8],
