@@ -10,7 +10,15 @@ pub fn copy_at(buf: &mut [u8], at: usize, file: &[u8], from: usize, n: usize)
     requires { (at + n ≤ length buf.old) × (from + n ≤ length file.now) }
     ensures { buf.new ≡ over buf.old at (take n (drop from file.now)) }
 {
-    buf[at..at + n].copy_from_slice(&file[from..from + n]);
+    octets::copy(&mut buf[at..], &file[from..from + n]);
+}
+
+// Two words of the file, at a place of a buffer: so few, and a number that the compiler knows, are moved at once.
+fn copy_words(buf: &mut [u8], at: usize, file: &[u8], from: usize)
+    requires { (at + 16 ≤ length buf.old) × (from + 16 ≤ length file.now) }
+    ensures { buf.new ≡ over buf.old at (take 16 (drop from file.now)) }
+{
+    buf[at..at + 16].copy_from_slice(&file[from..from + 16]);
 }
 
 // The entry of the link at an offset, with its state: offset, id, payload length, hash, type, state, flags, zeros.
@@ -21,19 +29,17 @@ pub fn put_entry(buf: &mut [u8], at: usize, file: &[u8], offset: usize, state: u
     let kind = file[offset + segment::fields::KIND];
     let flags = octets::le::u16_at(file, offset + segment::fields::FLAGS);
     octets::le::put(buf, at, 8, offset as u64);
-    copy_at(
+    copy_words(
         buf,
         at + manifest::fields::ID,
         file,
         offset + segment::fields::ID,
-        16,
     );
-    copy_at(
+    copy_words(
         buf,
         at + manifest::fields::HASH,
         file,
         offset + segment::fields::HASH,
-        16,
     );
     buf[at + manifest::fields::ENTRY_KIND] = kind;
     buf[at + manifest::fields::STATE] = state;

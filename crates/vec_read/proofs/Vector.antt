@@ -13,7 +13,7 @@ use Rattle.vecseg.specs.Payload.{check_of, width, columns_length}
 use Rattle.vecseg.proofs.LineLaws.{width_most}
 use Rattle.vecseg.specs.Find.{Place, find_in, vector_of}
 use Rattle.vecseg.proofs.FindLaws.{found_good}
-use Rattle.vec_read.specs.walk.Walk.{place_read, searched_at, found_up_to, walked_of}
+use Rattle.vec_read.specs.walk.Walk.{place_read, searched_at, sum_of, found_up_to, walked_of}
 use Rattle.vec_read.proofs.walk.WalkLaws.{was_bad, was_sound}
 use Rattle.vec_read.specs.declared.walk.Place.{Place as PlaceRead}
 use Rattle.vec_read.specs.declared.walk.Searched.{Searched}
@@ -111,8 +111,12 @@ module _ (s : List ℕ) (id : ℕ) where
   pub found_bad : (e : ℕ) → walked_of false s (Some id) ≡ Err e → (e ≡ check_of s) × (e ≡ 0 → ⊥)
   found_bad e p = was_bad false s (Some id) e p
 
+  pub found_sound : (w : Searched) → walked_of false s (Some id) ≡ Ok w → (check_of s ≡ 0) × (searched_at 0 (find_in s id) ≡ w)
+  unfolding sum_of found_up_to find_in
+  found_sound w p = was_sound false s (Some id) w p
+
   pub found_place : (w : Searched) → walked_of false s (Some id) ≡ Ok w → (check_of s ≡ 0) × (place_read (find_in s id) ≡ w.place)
-  unfolding searched_at found_up_to find_in
+  unfolding searched_at
   found_place w p =
-      let b = was_sound false s (Some id) w p in
+      let b = found_sound w p in
       (b.0, ap (λ (x : Searched). x.place) b.1)

@@ -26,7 +26,9 @@ pub fn component_at(s: &[u8], at: usize, dtype: u8) -> Component
     Component::Unsigned(s[at])
 }
 
-// A vector's bytes at the front of a buffer, and how many; or 9, with the buffer as it was.
+// A vector's bytes at the front of a buffer, and how many; or 9, with the buffer as it was. It stays a function of its
+// own: in the midst of a caller its loop runs short of registers, and takes a tenth longer for each component.
+#[inline(never)]
 pub fn read_vector(s: &[u8], place: Place, buf: &mut [u8]) -> Result<usize, Refusal>
     requires { Bounds (length s.now) place.offset place.count place.dim (width place.dtype)
         place.index }
